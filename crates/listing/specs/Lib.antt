@@ -1,0 +1,2 @@
+-- Document 01, "The listing", as definitions.
+pub mod Listing

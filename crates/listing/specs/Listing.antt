@@ -1,0 +1,59 @@
+-- The lines that the bench program prints, as bytes: document 01, "The listing". Each line ends in a newline, the last too.
+use Prim.Native.Nat.{ℕ, zero, suc, _+_, _/_, _%_, min}
+use mathlib.Core.Bool.{true, false}
+use mathlib.Core.List.{List, [], _∷_, _++_}
+use lib.Dec.{ltb}
+use Rattle.theory.specs.declared.Answer.{Answer}
+use Rattle.theory.specs.Answer.{numberOf, rowOf}
+use Rattle.placement.specs.Figures.{Figures}
+
+-- `row core response allowance` and a newline: 28 bytes
+abbrev pub headerLine : List ℕ
+headerLine = 114 ∷ 111 ∷ 119 ∷ 32 ∷ 99 ∷ 111 ∷ 114 ∷ 101 ∷ 32 ∷ 114 ∷ 101 ∷ 115 ∷ 112 ∷ 111 ∷ 110 ∷ 115 ∷ 101 ∷ 32 ∷ 97 ∷ 108 ∷ 108 ∷ 111 ∷ 119 ∷ 97 ∷ 110 ∷ 99 ∷ 101 ∷ 10 ∷ []
+
+-- `system ` with its space
+abbrev pub systemWord : List ℕ
+systemWord = 115 ∷ 121 ∷ 115 ∷ 116 ∷ 101 ∷ 109 ∷ 32 ∷ []
+
+-- `refused ` with its space
+abbrev pub refusedWord : List ℕ
+refusedWord = 114 ∷ 101 ∷ 102 ∷ 117 ∷ 115 ∷ 101 ∷ 100 ∷ 32 ∷ []
+
+-- ` row ` with its spaces
+abbrev pub rowWord : List ℕ
+rowWord = 32 ∷ 114 ∷ 111 ∷ 119 ∷ 32 ∷ []
+
+-- the digits of n in front of those that follow; the steps are bounded only so that it computes
+unfoldable pub digitsBefore : ℕ → ℕ → List ℕ → List ℕ
+digitsBefore zero n behind = behind
+digitsBefore (suc steps) n behind = elim (ltb n 10) [ true ↦ (48 + n) ∷ behind | false ↦ digitsBefore steps (n / 10) ((48 + n % 10) ∷ behind) ]
+
+-- n in decimal digits, with no leading zero
+unfoldable pub decimal : ℕ → List ℕ
+decimal n = digitsBefore (suc n) n []
+
+-- the line of a row: its number, core, response time and allowance, one space between
+unfoldable pub rowLine : ℕ → Figures → List ℕ
+rowLine number figures = decimal number ++ (32 ∷ decimal (figures .core) ++ (32 ∷ decimal (figures .response) ++ (32 ∷ decimal (figures .allowance) ++ (10 ∷ []))))
+
+-- a line for each row in table order, numbered from a first number on
+unfoldable pub rowLines : ℕ → List Figures → List ℕ
+rowLines number [] = []
+rowLines number (figures ∷ others) = rowLine number figures ++ rowLines (suc number) others
+
+-- the system's allowance: the smallest of all rows', the first row's being at hand
+unfoldable pub smallestAllowance : ℕ → List Figures → ℕ
+smallestAllowance a [] = a
+smallestAllowance a (figures ∷ others) = smallestAllowance (min a (figures .allowance)) others
+
+unfoldable pub systemAllowance : List Figures → ℕ
+systemAllowance [] = 0
+systemAllowance (figures ∷ others) = smallestAllowance (figures .allowance) others
+
+-- the listing of a certified table
+unfoldable pub listing : List Figures → List ℕ
+listing all = headerLine ++ (rowLines 1 all ++ (systemWord ++ (decimal (systemAllowance all) ++ (10 ∷ []))))
+
+-- `refused N row R`
+unfoldable pub refusal : Answer → List ℕ
+refusal answer = refusedWord ++ (decimal (numberOf answer) ++ (rowWord ++ (decimal (rowOf answer) ++ (10 ∷ []))))

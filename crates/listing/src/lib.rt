@@ -1,0 +1,1 @@
+// The listing's bytes: document 01, "The listing", as definitions in `specs/`.

@@ -1,0 +1,2 @@
+-- What the table service and the bench program promise.
+pub mod Table

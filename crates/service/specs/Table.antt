@@ -1,0 +1,57 @@
+-- What the table service answers, and what its lent report holds at the end; and what the bench program prints. Document 01, "Refusal
+-- numbers": the faults of reading in their order, then 7, then 6.
+use mathlib.Core.Path.{_≡_}
+use Prim.Native.Nat.{ℕ, suc, _≤_, _<_}
+use mathlib.Core.List.{List}
+use lib.ListN.{length}
+use Rattle.theory.specs.declared.Answer.{Answer}
+use Rattle.theory.specs.declared.Answer.the-variants.{Accepted, NoCoreTakes, OutputTooShort}
+use Rattle.theory.specs.Lists.{filled}
+use Rattle.placement.specs.Core.{Table}
+use Rattle.placement.specs.Choice.{Rule}
+use Rattle.placement.specs.Placement.{Stopped}
+use Rattle.placement.specs.Figures.{Figures, Certified}
+use Rattle.records.specs.Reading.{readTable, table, refused}
+use Rattle.records.specs.Report.{reportBytes, reportLength}
+use Rattle.listing.specs.Listing.{listing, refusal}
+
+-- the table service's answer to table bytes and a lent report, and the report at the end
+pub data TableAnswered (rule : Rule) (bytes report : List ℕ) : Answer → List ℕ → Type 0 where
+  not-a-table :
+      (answer : Answer)
+      → readTable bytes ≡ refused answer
+      → TableAnswered rule bytes report answer report
+  output-too-short :
+      (t : Table)
+      → readTable bytes ≡ table t
+      → length report < reportLength (length (t .rows))
+      → TableAnswered rule bytes report OutputTooShort report
+  no-core-takes :
+      (t : Table) (i : ℕ)
+      → readTable bytes ≡ table t
+      → reportLength (length (t .rows)) ≤ length report
+      → Stopped rule t i
+      → TableAnswered rule bytes report (NoCoreTakes (suc i)) report
+  accepted :
+      (t : Table) (all : List Figures)
+      → readTable bytes ≡ table t
+      → reportLength (length (t .rows)) ≤ length report
+      → Certified rule t all
+      → TableAnswered rule bytes report Accepted (filled (reportBytes t all) report)
+
+-- what the bench program prints for table bytes
+pub data Listed (rule : Rule) (bytes : List ℕ) : List ℕ → Type 0 where
+  not-a-table :
+      (answer : Answer)
+      → readTable bytes ≡ refused answer
+      → Listed rule bytes (refusal answer)
+  no-core-takes :
+      (t : Table) (i : ℕ)
+      → readTable bytes ≡ table t
+      → Stopped rule t i
+      → Listed rule bytes (refusal (NoCoreTakes (suc i)))
+  accepted :
+      (t : Table) (all : List Figures)
+      → readTable bytes ≡ table t
+      → Certified rule t all
+      → Listed rule bytes (listing all)

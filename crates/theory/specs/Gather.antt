@@ -1,0 +1,34 @@
+-- Words for lists of numbers that the definitions of document 01 share: places, those that pass a test, a sum, an order, a smallest.
+use Prim.Native.Nat.{ℕ, zero, suc, _+_}
+use mathlib.Core.Bool.{Bool, true, false, _&&_}
+use mathlib.Core.List.{List, [], _∷_}
+
+-- the n numbers from i on: i, i + 1, ..
+unfoldable pub upFrom : ℕ → ℕ → List ℕ
+upFrom i zero = []
+upFrom i (suc n) = i ∷ upFrom (suc i) n
+
+-- those of a list that pass a test, in its order
+unfoldable pub keep : (ℕ → Bool) → List ℕ → List ℕ
+keep test [] = []
+keep test (x ∷ xs) = elim (test x) [ true ↦ x ∷ keep test xs | false ↦ keep test xs ]
+
+-- the sum of a term over a list
+unfoldable pub sum : (ℕ → ℕ) → List ℕ → ℕ
+sum term [] = 0
+sum term (x ∷ xs) = term x + sum term xs
+
+-- whether each of a list passes a test
+unfoldable pub every : (ℕ → Bool) → List ℕ → Bool
+every test [] = true
+every test (x ∷ xs) = test x && every test xs
+
+-- x put into a list before the first that it precedes
+unfoldable pub insert : (ℕ → ℕ → Bool) → ℕ → List ℕ → List ℕ
+insert precedes x [] = x ∷ []
+insert precedes x (y ∷ ys) = elim (precedes x y) [ true ↦ x ∷ y ∷ ys | false ↦ y ∷ insert precedes x ys ]
+
+-- a list in the order of a relation
+unfoldable pub sort : (ℕ → ℕ → Bool) → List ℕ → List ℕ
+sort precedes [] = []
+sort precedes (x ∷ xs) = insert precedes x (sort precedes xs)

@@ -1,0 +1,9 @@
+-- Document 01 for one core, as definitions, in the order of the document.
+pub mod Answer
+pub mod Gather
+pub mod Row
+pub mod Rank
+pub mod Response
+pub mod Allowance
+pub mod Points
+pub mod Lists
