@@ -1,6 +1,8 @@
 -- The theory of one core.
+pub mod Gather
 pub mod Ceil
 pub mod Demand
 pub mod Climb
 pub mod Response
 pub mod Walk
+pub mod Signed
