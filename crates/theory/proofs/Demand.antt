@@ -1,10 +1,10 @@
 -- Demand and load grow with time, and demand is subadditive: the two laws that carry the theory. The same for the rows of the first levels.
-use mathlib.Core.Path.{_≡_, refl, sym, _∙_, ap}
+use mathlib.Core.Path.{_≡_, refl}
 use Prim.Native.Nat.{ℕ, zero, suc, _+_, _*_, _≤_, _<_}
 use mathlib.Core.List.{List, [], _∷_, map}
 use native.Mathlib.Nat.{mul-le-mul-right, add-mul, suc-mul, zero-mul, le-refl, le-trans}
 use native.Mathlib.Omega.{arith}
-use lib.ListN.{length}
+use lib.ListN.{length, getD, take}
 use Rattle.theory.specs.Row.{Row, rowAt}
 use Rattle.theory.specs.Gather.{sum}
 use Rattle.theory.specs.Rank.{rivals}
@@ -53,14 +53,21 @@ levelDemand-repeated hs j t R (suc n) =
     let step : levelDemand hs j (t + suc n * R) ≤ levelDemand hs j ((t + n * R) + R) = levelDemand-mono hs j (omega (arith, suc-mul n R)) in
     omega (arith, step, levelDemand-subadditive hs j (t + n * R) R, levelDemand-repeated hs j t R n, suc-mul n (levelDemand hs j R))
 
--- the demand of a list of rows is that of all its levels
 pub levelDemand-cons : (row : Row) (hs : List Row) (j t : ℕ) → levelDemand (row ∷ hs) (suc j) t ≡ ask row t + levelDemand hs j t
 unfolding levelDemand
 levelDemand-cons row hs zero t = omega arith
 levelDemand-cons row hs (suc j) t = omega (arith, levelDemand-cons row hs j t)
 
-pub demand-by-levels : (rows : List Row) (hs : List ℕ) (t : ℕ) → levelDemand (map (rowAt rows) hs) (length (map (rowAt rows) hs)) t ≡ demand rows hs t
+-- the first j of a list of rows ask for what its first j levels do
+pub demand-of-first : (rows : List Row) (hs : List ℕ) (j t : ℕ) → j ≤ length hs → levelDemand (map (rowAt rows) hs) j t ≡ demand rows (take j hs) t
 unfolding demand sum levelDemand
-demand-by-levels rows [] t = refl
-demand-by-levels rows (x ∷ hs) t =
-    omega (arith, levelDemand-cons (rowAt rows x) (map (rowAt rows) hs) (length (map (rowAt rows) hs)) t, demand-by-levels rows hs t)
+demand-of-first rows hs zero t h = refl
+demand-of-first rows [] (suc j) t h = absurd (omega arith)
+demand-of-first rows (x ∷ hs) (suc j) t h =
+    omega (arith, levelDemand-cons (rowAt rows x) (map (rowAt rows) hs) j t, demand-of-first rows hs j t (omega arith))
+
+-- the row at a place of a list of rows that places name
+pub row-of-place : (rows : List Row) (hs : List ℕ) (j : ℕ) → j < length hs → rowAt (map (rowAt rows) hs) j ≡ rowAt rows (getD hs j 0)
+row-of-place rows [] j h = absurd (omega arith)
+row-of-place rows (x ∷ hs) zero h = refl
+row-of-place rows (x ∷ hs) (suc j) h = row-of-place rows hs j (omega arith)

@@ -1,13 +1,13 @@
 -- Laws of the words for lists of numbers: what holds of each, members, sums, and the order that `sort` gives.
 use mathlib.Core.Path.{_≡_, refl, sym, ap, _∙_, subst}
-use Prim.Native.Nat.{ℕ, zero, suc, _+_, _≤_, _<_}
-use native.Mathlib.Nat.{add-le-add}
+use Prim.Native.Nat.{ℕ, zero, suc, _+_, _≤_, _<_, zero-le}
+use native.Mathlib.Nat.{add-le-add, le-trans, le-of-eq}
 use native.Mathlib.Omega.{arith}
 use mathlib.Core.Bool.{Bool, true, false, _&&_}
 use mathlib.Core.Logic.{_⊎_, inl, inr}
 use mathlib.Core.List.{List, [], _∷_, _++_, List·Memᴰ, List·Memᴰ·head, List·Memᴰ·tail}
 use lib.Dec.{T, eqb}
-use lib.ListN.{length}
+use lib.ListN.{length, getD}
 use borrow.Author.Tests.{eqb-true, eqb-false}
 use Rattle.theory.specs.Gather.{upFrom, keep, sum, every, insert, sort}
 
@@ -58,6 +58,10 @@ T-true b e = subst T (sym e) tt
 -- a test that passes gave no false
 pub T-false : (b : Bool) → b ≡ false → T b → ⊥
 T-false b e t = subst T e t
+
+pub true-of : (b : Bool) → T b → b ≡ true
+true-of true t = refl
+true-of false t = absurd t
 
 -- What holds of each.
 
@@ -167,6 +171,12 @@ mem-of-keep test xs m = all-at (λ y. List·Memᴰ y xs) m (all-keep (λ y. List
 pub mem-of-sort : (precedes : ℕ → ℕ → Bool) {x : ℕ} (xs : List ℕ) → List·Memᴰ x (sort precedes xs) → List·Memᴰ x xs
 mem-of-sort precedes xs m = all-at (λ y. List·Memᴰ y xs) m (all-sort (λ y. List·Memᴰ y xs) precedes xs (all-from xs (λ y n. n)))
 
+-- what stands at a place of a list is one of it
+pub mem-getD : (xs : List ℕ) (j : ℕ) → j < length xs → List·Memᴰ (getD xs j 0) xs
+mem-getD [] j h = absurd (omega arith)
+mem-getD (x ∷ xs) zero h = List·Memᴰ·head refl
+mem-getD (x ∷ xs) (suc j) h = List·Memᴰ·tail (mem-getD xs j (omega arith))
+
 -- a number from i on and below i + n is one of the n numbers from i on
 pub mem-upFrom : (i n x : ℕ) → i ≤ x → x < i + n → List·Memᴰ x (upFrom i n)
 unfolding upFrom
@@ -224,6 +234,15 @@ pub sum-eq : (f g : ℕ → ℕ) (xs : List ℕ) → All (λ x. f x ≡ g x) xs 
 unfolding sum
 sum-eq f g [] h = refl
 sum-eq f g (x ∷ xs) h = omega (arith, h .0, sum-eq f g xs (h .1))
+
+-- leaving some out makes no sum greater
+pub sum-keep-le : (test : ℕ → Bool) (term : ℕ → ℕ) (xs : List ℕ) → sum term (keep test xs) ≤ sum term xs
+sum-keep-le test term xs =
+    le-trans (le-of-eq (sum-keep test term xs)) (sum-le (where-passes test term) term xs (all-from xs (λ x m. at-most x (test x) refl)))
+  where
+    at-most : (x : ℕ) (b : Bool) → test x ≡ b → where-passes test term x ≤ term x
+    at-most x true e = le-of-eq (where-passes-true test term x e)
+    at-most x false e = le-trans (le-of-eq (where-passes-false test term x e)) zero-le
 
 -- Lengths.
 

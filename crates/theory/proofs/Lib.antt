@@ -1,4 +1,5 @@
 -- The theory of one core.
+pub mod Tests
 pub mod Gather
 pub mod Ceil
 pub mod Demand
@@ -6,3 +7,4 @@ pub mod Climb
 pub mod Response
 pub mod Walk
 pub mod Signed
+pub mod Rank

@@ -1,7 +1,13 @@
--- Words for lists of numbers that the definitions of document 01 share: places, those that pass a test, a sum, an order, a smallest.
+-- Words for numbers and lists of numbers that the definitions of document 01 share: an order with a rule for ties, places, those that pass a
+-- test, a sum, a list in an order.
 use Prim.Native.Nat.{ℕ, zero, suc, _+_}
-use mathlib.Core.Bool.{Bool, true, false, _&&_}
+use mathlib.Core.Bool.{Bool, true, false, _&&_, _||_}
 use mathlib.Core.List.{List, [], _∷_}
+use lib.Dec.{ltb, eqb}
+
+-- a is less than b; where the two tie, p is less than q
+abbrev pub lessOrTied : ℕ → ℕ → ℕ → ℕ → Bool
+lessOrTied a b p q = ltb a b || (eqb a b && ltb p q)
 
 -- the n numbers from i on: i, i + 1, ..
 unfoldable pub upFrom : ℕ → ℕ → List ℕ

@@ -1,11 +1,10 @@
 -- Rank on a core, and who is a rival of whom: document 01, "Rank and response time". Both look at deadlines and places only.
 use Prim.Native.Nat.{ℕ}
-use mathlib.Core.Bool.{Bool, _&&_, _||_}
+use mathlib.Core.Bool.{Bool}
 use mathlib.Core.List.{List, map}
-use lib.Dec.{ltb, eqb}
 use lib.ListN.{length}
 use Rattle.theory.specs.Row.{Row, rowAt}
-use Rattle.theory.specs.Gather.{upFrom, keep, sort}
+use Rattle.theory.specs.Gather.{lessOrTied, upFrom, keep, sort}
 
 -- the places of a set's rows, in table order
 abbrev pub places : List Row → List ℕ
@@ -13,7 +12,7 @@ places rows = upFrom 0 (length rows)
 
 -- row h ranks above row k: it has the smaller D, or an equal D and the earlier place
 abbrev pub above : List Row → ℕ → ℕ → Bool
-above rows h k = ltb (rowAt rows h .D) (rowAt rows k .D) || (eqb (rowAt rows h .D) (rowAt rows k .D) && ltb h k)
+above rows h k = lessOrTied (rowAt rows h .D) (rowAt rows k .D) h k
 
 -- row h is a rival of row k: row k's sum runs over it
 abbrev pub rival : List Row → ℕ → ℕ → Bool
