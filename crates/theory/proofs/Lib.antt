@@ -8,3 +8,4 @@ pub mod Response
 pub mod Walk
 pub mod Signed
 pub mod Rank
+pub mod Verdict
