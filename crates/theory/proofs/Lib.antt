@@ -9,3 +9,4 @@ pub mod Walk
 pub mod Signed
 pub mod Rank
 pub mod Verdict
+pub mod Raise

@@ -22,15 +22,16 @@ module _ (rows : List Row) where
   pub above-transitive : (x y z : ℕ) → T (above rows x y) → T (above rows y z) → T (above rows x z)
   above-transitive x y z = tied-transitive (rowAt rows x .D) (rowAt rows y .D) (rowAt rows z .D) x y z
 
-  pub above-irreflexive : (x : ℕ) → T (above rows x x) → ⊥
-  above-irreflexive x = tied-irreflexive (rowAt rows x .D) x
-
   pub above-connected : (x y : ℕ) → x < y → T (above rows x y) ⊎ T (above rows y x)
   above-connected x y h = tied-connected (rowAt rows x .D) (rowAt rows y .D) x y (λ e. omega arith)
 
   -- a row ranked above is a rival
   pub above-rival : (h k : ℕ) → T (above rows h k) → T (rival rows h k)
   above-rival h k t = t
+
+  -- no row is its own rival
+  pub rival-irreflexive : (x : ℕ) → T (rival rows x x) → ⊥
+  rival-irreflexive x = tied-irreflexive (rowAt rows x .D) x
 
   -- a rival of a row ranked above k is a rival of k
   pub rival-above : (x h k : ℕ) → T (rival rows x h) → T (above rows h k) → T (rival rows x k)
