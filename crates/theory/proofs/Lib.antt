@@ -10,3 +10,4 @@ pub mod Signed
 pub mod Rank
 pub mod Verdict
 pub mod Raise
+pub mod Bound

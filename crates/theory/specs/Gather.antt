@@ -38,3 +38,8 @@ insert precedes x (y ∷ ys) = elim (precedes x y) [ true ↦ x ∷ y ∷ ys | f
 unfoldable pub sort : (ℕ → ℕ → Bool) → List ℕ → List ℕ
 sort precedes [] = []
 sort precedes (x ∷ xs) = insert precedes x (sort precedes xs)
+
+-- of a first and others, the one that is left where a better one takes the place of the one in hand
+unfoldable pub best : {A : Type 0} → (A → A → Bool) → A → List A → A
+best better first [] = first
+best better first (next ∷ others) = elim (better next first) [ true ↦ best better next others | false ↦ best better first others ]

@@ -8,7 +8,7 @@ use lib.IntN.{ℤ, pos, negsuc, _-ℤ_, natAbs}
 use lib.Signed.{leZ, _≤ℤ_}
 use lib.ListN.{length}
 use Rattle.theory.specs.Row.{Row, rowAt}
-use Rattle.theory.specs.Gather.{keep}
+use Rattle.theory.specs.Gather.{keep, best}
 use Rattle.theory.specs.Rank.{places, above, rival, levels}
 use Rattle.theory.specs.Response.{ceil, load}
 
@@ -79,13 +79,11 @@ pub record FirstPointless (rows : List Row) (k : ℕ) : Type 0 where
   pub above-have : (h : ℕ) → h < length rows → T (above rows h k) → HasPoint rows h
 
 -- the greatest and the smallest of a first number and others, computed
-unfoldable pub greatestOf : ℤ → List ℤ → ℤ
-greatestOf z [] = z
-greatestOf z (y ∷ ys) = elim (leZ z y) [ true ↦ greatestOf y ys | false ↦ greatestOf z ys ]
+abbrev pub greatestOf : ℤ → List ℤ → ℤ
+greatestOf = best (λ next first. leZ first next)
 
-unfoldable pub smallestOf : ℤ → List ℤ → ℤ
-smallestOf z [] = z
-smallestOf z (y ∷ ys) = elim (leZ z y) [ true ↦ smallestOf z ys | false ↦ smallestOf y ys ]
+abbrev pub smallestOf : ℤ → List ℤ → ℤ
+smallestOf = best (λ next first. leZ next first)
 
 -- row k's bound on row i, computed; D is a point of every row
 unfoldable pub bound : List Row → ℕ → ℕ → ℤ
