@@ -55,31 +55,31 @@ module _ {A : Type 0} (better : A → A → Bool) (Under : A → A → Type 0)
   unfolding best
   best-is first [] = record {
     attained = List·Memᴰ·head refl;
-    over-all = λ y m. ⊎-elim (λ e. subst (λ (x : A). Under x first) (sym e) (reflexive first)) (λ n. elim n [ ]) (List·Memᴰ·cases-cons m)
+    over-all = λ y m. ⊎-elim (λ e. subst (λ (x : A). Under x first) (sym e) (reflexive first)) (λ n. elim n [ ]) (List·Memᴰ·cases-cons m);
   }
   best-is first (next ∷ others) = go (better next first) refl (best-is next others) (best-is first others)
     where
       go : (b : Bool) → better next first ≡ b → Best next others (best better next others) → Best first others (best better first others)
-        → Best first (next ∷ others) (elim b [ true ↦ best better next others | false ↦ best better first others ])
+          → Best first (next ∷ others) (elim b [ true ↦ best better next others | false ↦ best better first others ])
       go true e taken kept = record {
         attained = List·Memᴰ·tail (taken .attained);
         over-all = λ y m.
-          ⊎-elim
-          (λ f. subst (λ (x : A). Under x (best better next others)) (sym f) (transitive first next (best better next others) (passes next first e) (taken .over-all next (List·Memᴰ·head refl))))
-          (taken .over-all y)
-          (List·Memᴰ·cases-cons m)
+            ⊎-elim
+            (λ f. subst (λ (x : A). Under x (best better next others)) (sym f) (transitive first next (best better next others) (passes next first e) (taken .over-all next (List·Memᴰ·head refl))))
+            (taken .over-all y)
+            (List·Memᴰ·cases-cons m);
       }
       go false e taken kept = record {
         attained = ⊎-elim (λ f. List·Memᴰ·head f) (λ n. List·Memᴰ·tail (List·Memᴰ·tail n)) (List·Memᴰ·cases-cons (kept .attained));
         over-all = λ y m.
-          ⊎-elim
-          (λ f. kept .over-all y (List·Memᴰ·head f))
-          (λ n.
+            ⊎-elim
+            (λ f. kept .over-all y (List·Memᴰ·head f))
+            (λ n.
             ⊎-elim
             (λ f. subst (λ (x : A). Under x (best better first others)) (sym f) (transitive next first (best better first others) (fails next first e) (kept .over-all first (List·Memᴰ·head refl))))
             (λ o. kept .over-all y (List·Memᴰ·tail o))
             (List·Memᴰ·cases-cons n))
-          (List·Memᴰ·cases-cons m)
+            (List·Memᴰ·cases-cons m);
       }
 
 abbrev Greatest : ℤ → List ℤ → ℤ → Type 0
@@ -102,17 +102,17 @@ module _ (rows : List Row) where
   bound-is k i =
       let at-deadline : List·Memᴰ (rowAt rows k .D) (points rows k) = walk-start (levels rows k) (length (levels rows k)) (rowAt rows k .D) in
       let g : Greatest (quotient rows k i (rowAt rows k .D)) (map (quotient rows k i) (points rows k)) (bound rows k i) =
-        greatest-is (quotient rows k i (rowAt rows k .D)) (map (quotient rows k i) (points rows k)) in
+      greatest-is (quotient rows k i (rowAt rows k .D)) (map (quotient rows k i) (points rows k)) in
       let v : ValueOf (quotient rows k i) (points rows k) (bound rows k i) =
-        ⊎-elim
-        (λ e. record { at = rowAt rows k .D; among = at-deadline; value = sym e })
-        (mem-of-map (quotient rows k i) (points rows k) (bound rows k i))
-        (List·Memᴰ·cases-cons (g .attained)) in
+      ⊎-elim
+      (λ e. record { at = rowAt rows k .D; among = at-deadline; value = sym e })
+      (mem-of-map (quotient rows k i) (points rows k) (bound rows k i))
+      (List·Memᴰ·cases-cons (g .attained)) in
       record {
         point = v .at;
         among-points = v .among;
         its-quotient = v .value;
-        greatest = λ p m. g .over-all (quotient rows k i p) (List·Memᴰ·tail (mem-map (quotient rows k i) m))
+        greatest = λ p m. g .over-all (quotient rows k i p) (List·Memᴰ·tail (mem-map (quotient rows k i) m));
       }
 
   pub bound-unique : (k i : ℕ) (b c : ℤ) → IsBound rows k i b → IsBound rows k i c → b ≡ c
@@ -127,24 +127,24 @@ module _ (rows : List Row) where
   point-allowance-is i inside =
       let touched-rows = keep (touches rows i) (places rows) in
       let s : Smallest (bound rows i i) (map (λ k. bound rows k i) touched-rows) (pointAllowance rows i) =
-        smallest-is (bound rows i i) (map (λ k. bound rows k i) touched-rows) in
+      smallest-is (bound rows i i) (map (λ k. bound rows k i) touched-rows) in
       let v : ValueOf (λ k. bound rows k i) touched-rows (pointAllowance rows i) =
-        ⊎-elim
-        (λ e. record {
-          at = i;
-          among = mem-keep (touches rows i) (mem-upFrom 0 (length rows) i zero-le (omega arith)) (or-first (eqb i i) (rival rows i i) (eqb-refl i));
-          value = sym e
-        })
-        (mem-of-map (λ k. bound rows k i) touched-rows (pointAllowance rows i))
-        (List·Memᴰ·cases-cons (s .attained)) in
+      ⊎-elim
+      (λ e. record {
+        at = i;
+        among = mem-keep (touches rows i) (mem-upFrom 0 (length rows) i zero-le (omega arith)) (or-first (eqb i i) (rival rows i i) (eqb-refl i));
+        value = sym e;
+      })
+      (mem-of-map (λ k. bound rows k i) touched-rows (pointAllowance rows i))
+      (List·Memᴰ·cases-cons (s .attained)) in
       record {
         row = v .at;
         in-set = all-at (λ k. k < length rows) (v .among) (all-keep (λ k. k < length rows) (touches rows i) (places rows) (all-map (places rows) (λ k b. omega arith) (all-upFrom 0 (length rows))));
         touched = all-at (λ k. T (touches rows i k)) (v .among) (keep-passes (touches rows i) (places rows));
         its-bound = subst (IsBound rows (v .at) i) (v .value) (bound-is (v .at) i);
         smallest = λ k b in-set t is-bound.
-          subst (λ (z : ℤ). pointAllowance rows i ≤ℤ z) (bound-unique k i (bound rows k i) b (bound-is k i) is-bound)
-          (s .over-all (bound rows k i) (List·Memᴰ·tail (mem-map (λ h. bound rows h i) (mem-keep (touches rows i) (mem-upFrom 0 (length rows) k zero-le (omega arith)) t))))
+            subst (λ (z : ℤ). pointAllowance rows i ≤ℤ z) (bound-unique k i (bound rows k i) b (bound-is k i) is-bound)
+            (s .over-all (bound rows k i) (List·Memᴰ·tail (mem-map (λ h. bound rows h i) (mem-keep (touches rows i) (mem-upFrom 0 (length rows) k zero-le (omega arith)) t))));
       }
 
   pub point-allowance-unique : (i : ℕ) (a b : ℤ) → IsPointAllowance rows i a → IsPointAllowance rows i b → a ≡ b
@@ -172,13 +172,14 @@ module _ (rows : List Row) where
     -- a number is at most the bound exactly when some point has room for it
     pub bound-covers : (a : ℕ) (b : ℤ) → IsBound rows k i b → (pos a ≤ℤ b) ↔ PointFor k i a
     unfolding quotient slack
-    bound-covers a b is-bound =
-        (λ h. record {
-          point = is-bound .point;
-          among-points = is-bound .among-points;
-          room = quotient-covers (is-bound .point) (load rows k (is-bound .point)) a (times rows k i (is-bound .point)) (times-positive (is-bound .point) (is-bound .among-points)) .0
-            (subst (λ (z : ℤ). pos a ≤ℤ z) (sym (is-bound .its-quotient)) h)
-        },
-        λ p. ≤ℤ-trans (pos a) (quotient rows k i (p .point)) b
+    bound-covers a b is-bound = (
+      λ h. record {
+        point = is-bound .point;
+        among-points = is-bound .among-points;
+        room = quotient-covers (is-bound .point) (load rows k (is-bound .point)) a (times rows k i (is-bound .point)) (times-positive (is-bound .point) (is-bound .among-points)) .0
+            (subst (λ (z : ℤ). pos a ≤ℤ z) (sym (is-bound .its-quotient)) h);
+      },
+      λ p. ≤ℤ-trans (pos a) (quotient rows k i (p .point)) b
           (quotient-covers (p .point) (load rows k (p .point)) a (times rows k i (p .point)) (times-positive (p .point) (p .among-points)) .1 (p .room))
-          (is-bound .greatest (p .point) (p .among-points)))
+          (is-bound .greatest (p .point) (p .among-points)),
+    )

@@ -36,7 +36,7 @@ module _ (next : ℕ → ℕ) (mono : (s t : ℕ) → s ≤ t → next s ≤ nex
   start-again t start = record {
     from-one = omega (arith, start .from-one, start .rises);
     rises = mono t (next t) (start .rises);
-    below-room = λ S room. below S room (mono t S (start .below-room S room))
+    below-room = λ S room. below S room (mono t S (start .below-room S room));
   }
     where
       below : (S : ℕ) → RoomAt next S → next t ≤ next S → next t ≤ S
@@ -49,19 +49,21 @@ module _ (next : ℕ → ℕ) (mono : (s t : ℕ) → s ≤ t → next s ≤ nex
       at-limit (ltb limit t) refl (λ more. climb-right limit rounds (next t) (start-again t start) more)
     where
       repeated : (b : Bool) → eqb (next t) t ≡ b → t ≤ limit
-        → (limit < rounds + next t → Climbed next limit (climb next limit rounds (next t)))
-        → Climbed next limit (elim b [ true ↦ responds t | false ↦ climb next limit rounds (next t) ])
+          → (limit < rounds + next t → Climbed next limit (climb next limit rounds (next t)))
+          → Climbed next limit (elim b [ true ↦ responds t | false ↦ climb next limit rounds (next t) ])
       repeated true e h again =
-          let same : next t ≡ t = eqb-true (next t) t e in
-          (record {
-            room = record { from-one = start .from-one; enough = omega (arith, same) };
-            repeats = sym same;
-            least = start .below-room
-          }, h)
+          let same : next t ≡ t = eqb-true (next t) t e in (
+            record {
+              room = record { from-one = start .from-one; enough = omega (arith, same) };
+              repeats = sym same;
+              least = start .below-room;
+            },
+            h,
+          )
       repeated false e h again = again (omega (arith, eqb-false (next t) t e, start .rises))
 
       at-limit : (b : Bool) → ltb limit t ≡ b
-        → (limit < rounds + next t → Climbed next limit (climb next limit rounds (next t)))
-        → Climbed next limit (elim b [ true ↦ misses | false ↦ elim (eqb (next t) t) [ true ↦ responds t | false ↦ climb next limit rounds (next t) ] ])
+          → (limit < rounds + next t → Climbed next limit (climb next limit rounds (next t)))
+          → Climbed next limit (elim b [ true ↦ misses | false ↦ elim (eqb (next t) t) [ true ↦ responds t | false ↦ climb next limit rounds (next t) ] ])
       at-limit true e again = λ S room. omega (arith, ltb-true limit t e, start .below-room S room)
       at-limit false e again = repeated (eqb (next t) t) refl (ltb-false limit t e) again

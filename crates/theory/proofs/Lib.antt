@@ -11,3 +11,5 @@ pub mod Rank
 pub mod Verdict
 pub mod Raise
 pub mod Bound
+pub mod Allowance
+pub mod CoreAllowance

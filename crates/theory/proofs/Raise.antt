@@ -86,8 +86,8 @@ module _ (rows : List Row) (i a : ℕ) (inside : i < length rows) where
   above-stays : above after ≡ above rows
   above-stays =
       fun-ext (λ h. fun-ext (λ k.
-        ap (λ (d : ℕ). lessOrTied d (rowAt after k .D) h k) (ap (λ (r : Row). r .D) (raised-row h))
-        ∙ ap (λ (d : ℕ). lessOrTied (rowAt rows h .D) d h k) (ap (λ (r : Row). r .D) (raised-row k))))
+      ap (λ (d : ℕ). lessOrTied d (rowAt after k .D) h k) (ap (λ (r : Row). r .D) (raised-row h))
+      ∙ ap (λ (d : ℕ). lessOrTied (rowAt rows h .D) d h k) (ap (λ (r : Row). r .D) (raised-row k))))
 
   rivals-stay : (k : ℕ) → rivals after k ≡ rivals rows k
   unfolding rivals
@@ -139,11 +139,12 @@ module _ (rows : List Row) (i a : ℕ) (inside : i < length rows) where
   load-grows : (k t : ℕ) → load after k t ≡ load rows k t + (only i a k + sum (only i (a * ceil t (rowAt rows i .T))) (rivals rows k))
   unfolding load
   load-grows k t =
-      omega
-      (arith,
-      ap (λ (r : Row). own r) (raised-row k),
-      ap (λ (hs : List ℕ). demand after hs t) (rivals-stay k),
-      demand-grows (rivals rows k) t)
+      omega (
+        arith,
+        ap (λ (r : Row). own r) (raised-row k),
+        ap (λ (hs : List ℕ). demand after hs t) (rivals-stay k),
+        demand-grows (rivals rows k) t,
+      )
 
   no-rival : (k x : ℕ) → (T (rival rows i k) → ⊥) → sum (only i x) (rivals rows k) ≡ 0
   no-rival k x no-i =
@@ -160,24 +161,27 @@ module _ (rows : List Row) (i a : ℕ) (inside : i < length rows) where
     where
       x : ℕ
       x = a * ceil t (rowAt rows i .T)
+
       go : (b : Bool) → eqb k i ≡ b → T (eqb k i) ⊎ T (rival rows i k) → load after k t ≡ load rows k t + a * times rows k i t
       go true e c =
           let there : k ≡ i = eqb-true k i e in
           rw (e, times)
-          (omega
-          (arith,
-          load-grows k t,
-          only-there i a k there,
-          no-rival k x (λ r. rival-irreflexive rows i (subst (λ (y : ℕ). T (rival rows i y)) there r)),
-          mul-one a))
+          (omega (
+            arith,
+            load-grows k t,
+            only-there i a k there,
+            no-rival k x (λ r. rival-irreflexive rows i (subst (λ (y : ℕ). T (rival rows i y)) there r)),
+            mul-one a,
+          ))
       go false e (inl same) = absurd (T-false (eqb k i) e same)
       go false e (inr r) = rw (e, times) (omega (arith, load-grows k t, only-elsewhere i a k (eqb-false k i e), one-rival k x r))
 
   -- and not at all where raising row i does not touch row k
   pub load-of-untouched : (k t : ℕ) → (T (touches rows i k) → ⊥) → load after k t ≡ load rows k t
   load-of-untouched k t untouched =
-      omega
-      (arith,
-      load-grows k t,
-      only-elsewhere i a k (λ e. untouched (or-first (eqb k i) (rival rows i k) (T-true (eqb k i) (eq-eqb k i e)))),
-      no-rival k (a * ceil t (rowAt rows i .T)) (λ r. untouched (or-second (eqb k i) (rival rows i k) r)))
+      omega (
+        arith,
+        load-grows k t,
+        only-elsewhere i a k (λ e. untouched (or-first (eqb k i) (rival rows i k) (T-true (eqb k i) (eq-eqb k i e)))),
+        no-rival k (a * ceil t (rowAt rows i .T)) (λ r. untouched (or-second (eqb k i) (rival rows i k) r)),
+      )

@@ -63,30 +63,34 @@ module _ (rows : List Row) where
   pub load-by-levels : (k t : ℕ) → load rows k t ≡ own (rowAt rows k) + levelDemand (levels rows k) (length (levels rows k)) t
   unfolding load levels demand
   load-by-levels k t =
-      omega
-      (arith,
-      ap (λ (n : ℕ). levelDemand (map (rowAt rows) (ranked k)) n t) (length-map (ranked k) (rowAt rows)),
-      demand-of-first rows (ranked k) (length (ranked k)) t (le-refl (length (ranked k))),
-      ap (λ (hs : List ℕ). demand rows hs t) (take-length (ranked k)),
-      sum-sort (λ h. ask (rowAt rows h) t) (above rows) (rivals rows k))
+      omega (
+        arith,
+        ap (λ (n : ℕ). levelDemand (map (rowAt rows) (ranked k)) n t) (length-map (ranked k) (rowAt rows)),
+        demand-of-first rows (ranked k) (length (ranked k)) t (le-refl (length (ranked k))),
+        ap (λ (hs : List ℕ). demand rows hs t) (take-length (ranked k)),
+        sum-sort (λ h. ask (rowAt rows h) t) (above rows) (rivals rows k),
+      )
 
   -- rows ranked above h ask for no more than its rivals do, whatever walk they stand in
   demand-above : (k h t : ℕ) (before after : List ℕ) → ranked k ≡ before ++ (h ∷ after) → demand rows before t ≤ demand rows (rivals rows h) t
   unfolding demand rivals
   demand-above k h t before after split =
-      omega
-      (arith,
-      sum-eq term passed before (all-map before (λ x a. sym (where-passes-true (λ y. rival rows y h) term x (true-of (rival rows x h) (above-rival x h (a .0))))) above-h),
-      sum-append passed before (h ∷ after),
-      ap (sum passed) split,
-      sum-sort passed (above rows) (rivals rows k),
-      sum-keep-le (λ y. rival rows y k) passed (places rows),
-      sum-keep (λ y. rival rows y h) term (places rows))
+      omega (
+        arith,
+        sum-eq term passed before (all-map before (λ x a. sym (where-passes-true (λ y. rival rows y h) term x (true-of (rival rows x h) (above-rival x h (a .0))))) above-h),
+        sum-append passed before (h ∷ after),
+        ap (sum passed) split,
+        sum-sort passed (above rows) (rivals rows k),
+        sum-keep-le (λ y. rival rows y k) passed (places rows),
+        sum-keep (λ y. rival rows y h) term (places rows),
+      )
     where
       term : ℕ → ℕ
       term x = ask (rowAt rows x) t
+
       passed : ℕ → ℕ
       passed = where-passes (λ y. rival rows y h) term
+
       above-h : All (λ x. All (λ y. T (above rows x y)) (h ∷ after)) before
       above-h = ordered-append-split (λ x y. T (above rows x y)) before (h ∷ after) (subst (Ordered (λ x y. T (above rows x y))) split (ranked-ordered k)) .between
 
@@ -105,12 +109,14 @@ module _ (rows : List Row) where
     in-set = of-rivals .0;
     is-rival = of-rivals .1;
     its-row = row-of-place rows (ranked k) j inside;
-    before-ask = λ t. le-trans (le-of-eq (demand-of-first rows (ranked k) j t (le-of-lt inside))) (demand-above k x t (take j (ranked k)) (drop (suc j) (ranked k)) (split-at (ranked k) j 0 inside))
+    before-ask = λ t. le-trans (le-of-eq (demand-of-first rows (ranked k) j t (le-of-lt inside))) (demand-above k x t (take j (ranked k)) (drop (suc j) (ranked k)) (split-at (ranked k) j 0 inside));
   }
     where
       inside : j < length (ranked k)
       inside = subst (λ (n : ℕ). j < n) (length-map (ranked k) (rowAt rows)) h
+
       x : ℕ
       x = getD (ranked k) j 0
+
       of-rivals : (x < length rows) × T (rival rows x k)
       of-rivals = all-at (λ y. (y < length rows) × T (rival rows y k)) (mem-of-sort (above rows) (rivals rows k) (mem-getD (ranked k) j inside)) (all-rivals k)

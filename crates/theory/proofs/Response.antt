@@ -29,7 +29,7 @@ pub response-room : (rows : List Row) (k R limit : ℕ) → IsResponse rows k R 
 response-room rows k R limit r h = record {
   time = R;
   room = record { from-one = r .at-least-one; enough = omega (arith, r .solves) };
-  within = h
+  within = h;
 }
 
 pub meets-room : (rows : List Row) (k : ℕ) → Meets rows k → Room rows k (rowAt rows k .D)
@@ -40,7 +40,7 @@ pub least-response : (rows : List Row) (k R : ℕ) → LeastRoom (load rows k) R
 least-response rows k R l = record {
   at-least-one = l .room .from-one;
   solves = l .repeats;
-  least = λ S one e. l .least S (record { from-one = one; enough = omega arith })
+  least = λ S one e. l .least S (record { from-one = one; enough = omega arith });
 }
 
 module _ (rows : List Row) (k : ℕ) (runs : 1 ≤ rowAt rows k .C) where
@@ -50,7 +50,7 @@ module _ (rows : List Row) (k : ℕ) (runs : 1 ≤ rowAt rows k .C) where
   start-at-one = record {
     from-one = le-refl 1;
     rises = omega (arith, runs);
-    below-room = λ S room. room .from-one
+    below-room = λ S room. room .from-one;
   }
 
   -- the climb from 1, with as many rounds as the limit
@@ -65,8 +65,8 @@ module _ (rows : List Row) (k : ℕ) (runs : 1 ≤ rowAt rows k .C) where
       go : (o : Outcome) → Climbed (load rows k) (rowAt rows k .D) o → IsOutcome rows k o
       go (responds R) c = (least-response rows k R (c .0), c .1)
       go misses c = λ m.
-        let r : Room rows k (rowAt rows k .D) = meets-room rows k m in
-        omega (arith, c (r .time) (r .room), r .within)
+          let r : Room rows k (rowAt rows k .D) = meets-room rows k m in
+          omega (arith, c (r .time) (r .room), r .within)
 
   -- with room by the deadline the row meets
   pub room-meets : Room rows k (rowAt rows k .D) → Meets rows k

@@ -67,16 +67,20 @@ floorDiv-largest (pos n) (pos a) m h =
     (λ e. pos-le (le-div-iff-mul-le h .0 (le-pos a (n / m) e)), λ e. pos-le (le-div-iff-mul-le h .1 (le-pos (a * m) n e)))
 floorDiv-largest (negsuc n) (pos a) m h = (λ e. absurd (e .le), λ e. absurd (e .le))
 floorDiv-largest (pos n) (negsuc a) m h = (λ e. rw (negated (suc a * m) (omega (arith, suc-mul a m))) (record { le = tt }), λ e. record { le = tt })
-floorDiv-largest (negsuc n) (negsuc a) m h =
-    (λ e. rw (negated (suc a * m) some) (record { le = le→leb n (suc a * m - 1) (omega (arith, some, less .0 (le→lt (leb→le (n / m) a (e .le))))) }),
-    λ e. record { le = le→leb (n / m) a (le-of-suc-le-suc (less .1 (bound (rw (negated (suc a * m) some) at e)))) })
+floorDiv-largest (negsuc n) (negsuc a) m h = (
+  λ e. rw (negated (suc a * m) some) (record { le = le→leb n (suc a * m - 1) (omega (arith, some, less .0 (le→lt (leb→le (n / m) a (e .le))))) }),
+  λ e. record { le = le→leb (n / m) a (le-of-suc-le-suc (less .1 (bound (rw (negated (suc a * m) some) at e)))) },
+)
   where
     some : 0 < suc a * m
     some = omega (arith, suc-mul a m)
+
     less : (n / m < suc a) ↔ (n < suc a * m)
     less = div-lt-iff-lt-mul h
+
     le→lt : n / m ≤ a → n / m < suc a
     le→lt e = omega arith
+
     bound : negsuc (suc a * m - 1) ≤ℤ negsuc n → n < suc a * m
     bound e = omega (arith, some, leb→le n (suc a * m - 1) (e .le))
 
@@ -106,6 +110,7 @@ quotient-covers t l a m h = go (ltb t l) refl
     go : (b : Bool) → ltb t l ≡ b → (pos a ≤ℤ floorDiv (pos t -ℤ pos l) m) ↔ (l + a * m ≤ t)
     go true e = rw (shortfall t l (ltb-true t l e)) (λ n. absurd (n .le), λ k. absurd (omega (arith, ltb-true t l e)))
     go false e =
-        rw (difference t l (ltb-false t l e))
-        (λ n. omega (arith, le-div-iff-mul-le h .0 (le-pos a ((t - l) / m) n), ltb-false t l e),
-        λ k. pos-le (le-div-iff-mul-le h .1 (omega arith)))
+        rw (difference t l (ltb-false t l e)) (
+          λ n. omega (arith, le-div-iff-mul-le h .0 (le-pos a ((t - l) / m) n), ltb-false t l e),
+          λ k. pos-le (le-div-iff-mul-le h .1 (omega arith)),
+        )

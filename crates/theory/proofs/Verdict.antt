@@ -44,9 +44,9 @@ module _ (rows : List Row) (steady : AllSteady rows) where
     time = p .point;
     room = record {
       from-one = walk-positive (levels rows k) (length (levels rows k)) (rowAt rows k .D) (p .point) (steady k inside .some-deadline) (p .among-points);
-      enough = slack-left (p .point) (load rows k (p .point)) .0 (p .slack-left)
+      enough = slack-left (p .point) (load rows k (p .point)) .0 (p .slack-left);
     };
-    within = walk-within (levels rows k) (length (levels rows k)) (rowAt rows k .D) (p .point) (p .among-points)
+    within = walk-within (levels rows k) (length (levels rows k)) (rowAt rows k .D) (p .point) (p .among-points);
   }
 
   -- so a row with such a point meets, whatever its rivals do
@@ -64,7 +64,7 @@ module _ (rows : List Row) (steady : AllSteady rows) where
         time = m .response;
         from-one = m .is-response .at-least-one;
         by-period = omega (arith, m .by-deadline, s .by-period, ap (λ (r : Row). r .T) (l .its-row));
-        enough = omega (arith, m .is-response .solves, l .before-ask (m .response), ap (λ (r : Row). r .C) (l .its-row))
+        enough = omega (arith, m .is-response .solves, l .before-ask (m .response), ap (λ (r : Row). r .C) (l .its-row));
       }
 
   -- where all its rivals meet, a row with room has a point
@@ -73,12 +73,12 @@ module _ (rows : List Row) (steady : AllSteady rows) where
   room-point k meet r =
       let n = length (levels rows k) in
       let p : PointAt (levels rows k) n (own (rowAt rows k)) (rowAt rows k .D) =
-        walk-finds (levels rows k) n (level-room k meet) n (le-refl n) (own (rowAt rows k)) (rowAt rows k .D) (r .time) (r .room .from-one) (r .within)
-        (omega (arith, r .room .enough, load-by-levels rows k (r .time))) in
+      walk-finds (levels rows k) n (level-room k meet) n (le-refl n) (own (rowAt rows k)) (rowAt rows k .D) (r .time) (r .room .from-one) (r .within)
+      (omega (arith, r .room .enough, load-by-levels rows k (r .time))) in
       record {
         point = p .point;
         among-points = p .yielded;
-        slack-left = slack-left (p .point) (load rows k (p .point)) .1 (omega (arith, p .enough, load-by-levels rows k (p .point)))
+        slack-left = slack-left (p .point) (load rows k (p .point)) .1 (omega (arith, p .enough, load-by-levels rows k (p .point)));
       }
 
   -- the caution: where all its rivals meet, a row's verdict by points is exact
@@ -92,15 +92,16 @@ module _ (rows : List Row) (steady : AllSteady rows) where
 
   -- the first row in rank to miss is the same by response times and by points
   pub first-miss-by-points : (k : ℕ) → FirstMiss rows k ↔ FirstPointless rows k
-  first-miss-by-points k =
-      (λ f. record {
-        in-set = f .in-set;
-        pointless = λ p. f .misses (point-meets k (f .in-set) p);
-        above-have = λ h inside t.
-          verdict-by-points h inside (λ x in-set r. f .above-meet x in-set (rival-above rows x h k r t)) .0 (f .above-meet h inside t)
-      },
-      λ f. record {
-        in-set = f .in-set;
-        misses = λ m. f .pointless (verdict-by-points k (f .in-set) (λ h inside t. point-meets h inside (f .above-have h inside t)) .0 m);
-        above-meet = λ h inside t. point-meets h inside (f .above-have h inside t)
-      })
+  first-miss-by-points k = (
+    λ f. record {
+      in-set = f .in-set;
+      pointless = λ p. f .misses (point-meets k (f .in-set) p);
+      above-have = λ h inside t.
+          verdict-by-points h inside (λ x in-set r. f .above-meet x in-set (rival-above rows x h k r t)) .0 (f .above-meet h inside t);
+    },
+    λ f. record {
+      in-set = f .in-set;
+      misses = λ m. f .pointless (verdict-by-points k (f .in-set) (λ h inside t. point-meets h inside (f .above-have h inside t)) .0 m);
+      above-meet = λ h inside t. point-meets h inside (f .above-have h inside t);
+    },
+  )

@@ -23,8 +23,8 @@ module _ (hs : List Row) where
   ways : ℕ → ℕ → Bool → Bool → List ℕ
   ways j t at-multiple behind-multiple =
       elim at-multiple [
-        true ↦ walk hs j t
-      | false ↦ elim behind-multiple [ true ↦ walk hs j (stop j t) ++ walk hs j t | false ↦ walk hs j t ]
+        | true ↦ walk hs j t
+        | false ↦ elim behind-multiple [ true ↦ walk hs j (stop j t) ++ walk hs j t | false ↦ walk hs j t ]
       ]
 
   walk-ways : (j t : ℕ) → walk hs (suc j) t ≡ ways j t (eqb (stop j t) t) (ltb 0 (stop j t))
@@ -57,7 +57,7 @@ module _ (hs : List Row) where
   walk-cases j t p m = go (eqb (stop j t) t) (ltb 0 (stop j t)) refl (rw walk-ways at m)
     where
       go : (a b : Bool) → ltb 0 (stop j t) ≡ b → List·Memᴰ p (ways j t a b)
-        → List·Memᴰ p (walk hs j t) ⊎ ((0 < stop j t) × List·Memᴰ p (walk hs j (stop j t)))
+          → List·Memᴰ p (walk hs j t) ⊎ ((0 < stop j t) × List·Memᴰ p (walk hs j (stop j t)))
       go true b f q = inl q
       go false true f q =
           ⊎-elim (λ q. inr (ltb-true 0 (stop j t) f, q)) (λ q. inl q) (List·Memᴰ·append-cases (walk hs j (stop j t)) q)
@@ -99,9 +99,9 @@ module _ (hs : List Row) where
 
   -- a point of the level below, for an own time that has this level's jobs in it, is a point of this level
   lifted : (j c b start n : ℕ) (q : PointAt j (c + n * rowAt hs j .C) start)
-    → ceil start (rowAt hs j .T) ≤ n
-    → List·Memᴰ (q .point) (walk hs (suc j) b)
-    → PointAt (suc j) c b
+      → ceil start (rowAt hs j .T) ≤ n
+      → List·Memᴰ (q .point) (walk hs (suc j) b)
+      → PointAt (suc j) c b
   unfolding levelDemand
   lifted j c b start n q h m =
       let p = q .point in
@@ -109,12 +109,12 @@ module _ (hs : List Row) where
       record {
         point = p;
         yielded = m;
-        enough = omega (arith, q .enough, mul-le-mul-right (rowAt hs j .C) jobs)
+        enough = omega (arith, q .enough, mul-le-mul-right (rowAt hs j .C) jobs);
       }
 
   -- the two cases of the walk theorem, at level j + 1 with the theorem at level j
   module _ (j : ℕ) (rival : LevelRoom j) (c b t : ℕ) (one : 1 ≤ t) (within : t ≤ b) (enough : c + levelDemand hs (suc j) t ≤ t)
-    (below : (own from u : ℕ) → 1 ≤ u → u ≤ from → own + levelDemand hs j u ≤ u → PointAt j own from) where
+      (below : (own from u : ℕ) → 1 ≤ u → u ≤ from → own + levelDemand hs j u ≤ u → PointAt j own from) where
     period-positive : 0 < rowAt hs j .T
     period-positive = omega (arith, rival .from-one, rival .by-period)
 
@@ -140,16 +140,17 @@ module _ (hs : List Row) where
         let all : jobs + missing ≡ b / T = omega (arith, ceil-upto period-positive t b h) in
         let u = t + missing * R in
         let by-stop : u ≤ stop j b =
-          omega (arith, le-ceil t period-positive, mul-le-mul-left missing (rival .by-period), add-mul jobs missing T, ap (λ (n : ℕ). n * T) all) in
+        omega (arith, le-ceil t period-positive, mul-le-mul-left missing (rival .by-period), add-mul jobs missing T, ap (λ (n : ℕ). n * T) all) in
         let fits : c + b / T * C + levelDemand hs j u ≤ u =
-          omega
-          (arith,
+        omega (
+          arith,
           enough,
           levelDemand-repeated hs j t R missing,
           mul-le-mul-left missing (rival .enough),
           mul-add missing C (levelDemand hs j R),
           add-mul jobs missing C,
-          ap (λ (n : ℕ). n * C) all) in
+          ap (λ (n : ℕ). n * C) all,
+        ) in
         let q : PointAt j (c + b / T * C) (stop j b) = below (c + b / T * C) (stop j b) u (omega (arith, one)) by-stop fits in
         lifted j c b (stop j b) (b / T) q (ceil-upto period-positive (stop j b) b (le-refl (stop j b)))
         (walk-from-stop j b (q .point) (omega (arith, one, h)) (q .yielded))
