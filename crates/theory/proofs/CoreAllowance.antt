@@ -26,7 +26,7 @@ pub core-allowance-unique : (rows : List Row) (a b : ℕ) → IsCoreAllowance ro
 core-allowance-unique rows a b p q =
     le-antisymm (p .smallest (q .row) b (q .in-set) (q .its-allowance)) (q .smallest (p .row) a (p .in-set) (p .its-allowance))
 
-place-inside : (rows : List Row) (k : ℕ) → List·Memᴰ k (places rows) → k < length rows
+pub place-inside : (rows : List Row) (k : ℕ) → List·Memᴰ k (places rows) → k < length rows
 place-inside rows k m =
     let b : (0 ≤ k) × (k < 0 + length rows) = all-at (λ h. (0 ≤ h) × (h < 0 + length rows)) m (all-upFrom 0 (length rows)) in
     omega arith

@@ -13,3 +13,4 @@ pub mod Raise
 pub mod Bound
 pub mod Allowance
 pub mod CoreAllowance
+pub mod Utilisation

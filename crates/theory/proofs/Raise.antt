@@ -25,11 +25,11 @@ use Rattle.theory.proofs.Rank.{rival-irreflexive, mem-rivals, all-rival
 unfoldable pub only : ℕ → ℕ → ℕ → ℕ
 only i x h = elim (eqb h i) [ true ↦ x | false ↦ 0 ]
 
-only-there : (i x h : ℕ) → h ≡ i → only i x h ≡ x
+pub only-there : (i x h : ℕ) → h ≡ i → only i x h ≡ x
 unfolding only
 only-there i x h e = rw (eq-eqb h i e, only)
 
-only-elsewhere : (i x h : ℕ) → (h ≡ i → ⊥) → only i x h ≡ 0
+pub only-elsewhere : (i x h : ℕ) → (h ≡ i → ⊥) → only i x h ≡ 0
 unfolding only
 only-elsewhere i x h d = rw (ne-eqb h i d, only)
 
@@ -40,7 +40,7 @@ sum-without i x [] h = refl
 sum-without i x (y ∷ ys) h = omega (arith, only-elsewhere i x y (h .0), sum-without i x ys (h .1))
 
 -- a sum over a list with i in it once
-sum-with : (i x : ℕ) {xs : List ℕ} → List·Memᴰ i xs → Ordered _<_ xs → sum (only i x) xs ≡ x
+pub sum-with : (i x : ℕ) {xs : List ℕ} → List·Memᴰ i xs → Ordered _<_ xs → sum (only i x) xs ≡ x
 unfolding sum
 sum-with i x (List·Memᴰ·head {x = y} {xs = ys} e) o =
     omega (arith, only-there i x y (sym e), sum-without i x ys (all-map ys (λ z l f. omega arith) (o .0)))

@@ -22,8 +22,8 @@ module _ (rows : List Row) where
   pub above-transitive : (x y z : ℕ) → T (above rows x y) → T (above rows y z) → T (above rows x z)
   above-transitive x y z = tied-transitive (rowAt rows x .D) (rowAt rows y .D) (rowAt rows z .D) x y z
 
-  pub above-connected : (x y : ℕ) → x < y → T (above rows x y) ⊎ T (above rows y x)
-  above-connected x y h = tied-connected (rowAt rows x .D) (rowAt rows y .D) x y (λ e. omega arith)
+  pub above-connected : (x y : ℕ) → (x ≡ y → ⊥) → T (above rows x y) ⊎ T (above rows y x)
+  above-connected x y = tied-connected (rowAt rows x .D) (rowAt rows y .D) x y
 
   -- a row ranked above is a rival
   pub above-rival : (h k : ℕ) → T (above rows h k) → T (rival rows h k)
@@ -56,7 +56,7 @@ module _ (rows : List Row) where
   pub ranked-ordered : (k : ℕ) → Ordered (λ x y. T (above rows x y)) (ranked k)
   unfolding rivals
   ranked-ordered k =
-      sort-ordered (above rows) above-transitive above-connected (rivals rows k)
+      sort-ordered (above rows) above-transitive (λ x y h. above-connected x y (λ e. omega arith)) (rivals rows k)
       (ordered-keep _<_ (λ h. rival rows h k) (places rows) (upFrom-ascending 0 (length rows)))
 
   -- the load of row k, by the levels of its walk

@@ -6,4 +6,5 @@ pub mod Rank
 pub mod Response
 pub mod Allowance
 pub mod Points
+pub mod Utilisation
 pub mod Lists
