@@ -14,3 +14,5 @@ pub mod Bound
 pub mod Allowance
 pub mod CoreAllowance
 pub mod Utilisation
+pub mod DemandThree
+pub mod Lists
