@@ -2,3 +2,6 @@
 pub mod Number
 pub mod RecordReading
 pub mod Reading
+pub mod Lengths
+pub mod Report
+pub mod ListBytes

@@ -1,9 +1,9 @@
 -- Numbers below 2^32 and their four bytes: each determines the other.
 use mathlib.Core.Path.{_≡_, refl, ap}
-use Prim.Native.Nat.{ℕ, zero, suc, _+_, _*_, _/_, _%_, _^_, _≤_, _<_, suc-le-suc}
+use Prim.Native.Nat.{ℕ, zero, suc, _+_, _*_, _/_, _%_, _^_, _≤_, _<_}
 use mathlib.Core.List.{List, [], _∷_, _++_}
 use native.Mathlib.Omega.{arith}
-use native.Mathlib.Nat.{mod-lt, mod-eq-of-lt, div-div-eq-div-mul}
+use native.Mathlib.Nat.{mod-eq-of-lt, div-div-eq-div-mul}
 use lib.ListN.{length, getD, drop, length-drop}
 use lib.Seq.{getD-drop}
 use Rattle.records.specs.Number.{bigEndianFrom, numberAt, fourBytes}

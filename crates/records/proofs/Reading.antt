@@ -1,7 +1,7 @@
 -- Tables and their bytes: a table that is read keeps the rules and has the bytes that were read, and the bytes of a table that keeps
 -- the rules are read as that table.
-use mathlib.Core.Path.{_≡_, refl, ap, _∙_, sym}
-use Prim.Native.Nat.{ℕ, zero, suc, _≤_, _<_, suc-le-suc}
+use mathlib.Core.Path.{_≡_, ap, _∙_, sym}
+use Prim.Native.Nat.{ℕ, zero, suc, _≤_, suc-le-suc}
 use native.Mathlib.Nat.{le-of-suc-le-suc}
 use mathlib.Core.Bool.{_&&_}
 use mathlib.Core.List.{List, [], _∷_, _++_, flatMap, append-nil}
@@ -58,7 +58,7 @@ module _ (left cores : ℕ) (rows : List Row) (t : Table) where
         some-row = rw append-nil some;
         few = omega arith;
         more-within = λ k inside. absurd (omega arith);
-        same-bytes = λ below. rw append-nil is-count
+        same-bytes = λ below. rw append-nil is-count;
       }
 
   -- a row goes before the rows behind it
@@ -77,7 +77,7 @@ module _ (left cores : ℕ) (rows : List Row) (t : Table) where
         same-bytes = λ below.
             let body-below = all-below-drop 256 1 (2 ∷ body) below in
             rw (← same)
-            (ap (λ bytes. 2 ∷ bytes) (sym (whole-body body whole body-below) ∙ ap (rowBody (rowIn body)) (behind .same-bytes (all-below-drop 256 12 body body-below))))
+            (ap (λ bytes. 2 ∷ bytes) (sym (whole-body body whole body-below) ∙ ap (rowBody (rowIn body)) (behind .same-bytes (all-below-drop 256 12 body body-below))));
       }
 
 -- a table that is read behind the rows so far
@@ -122,15 +122,15 @@ table-read (kind ∷ (cores ∷ after)) t e =
     let rows = rows-read 24 cores [] after t (in-range .1) in
     record {
       within = rw (rows .is-table)
-        (record {
-          some-core = leb-true 1 cores (range .0);
-          no-9th-core = leb-true cores 8 (range .1);
-          some-row = rows .some-row;
-          no-25th-row = rows .few;
-          rows-within = rows .more-within
-        });
+          (record {
+            some-core = leb-true 1 cores (range .0);
+            no-9th-core = leb-true cores 8 (range .1);
+            some-row = rows .some-row;
+            no-25th-row = rows .few;
+            rows-within = rows .more-within;
+          });
       same-bytes = λ below.
-          rw (rows .is-table) (cc (eqb-true kind 1 (is-first .0), rows .same-bytes (all-below-drop 256 2 (kind ∷ cores ∷ after) below)))
+          rw (rows .is-table) (cc (eqb-true kind 1 (is-first .0), rows .same-bytes (all-below-drop 256 2 (kind ∷ cores ∷ after) below)));
     }
 
 -- a table that is read keeps the rules

@@ -1,6 +1,6 @@
 -- One record of a table: what is written is read, and what is read was written.
 use mathlib.Core.Path.{_≡_, refl, ap}
-use Prim.Native.Nat.{ℕ, suc, _≤_, _<_, _^_}
+use Prim.Native.Nat.{ℕ, _≤_}
 use mathlib.Core.Bool.{Bool, true, false}
 use mathlib.Core.List.{List, [], _∷_, _++_}
 use native.Mathlib.Omega.{arith}
@@ -12,7 +12,7 @@ use Rattle.theory.specs.declared.Answer.{Answer}
 use Rattle.theory.specs.Row.{Row, WithinLimits, withinLimits}
 use Rattle.theory.proofs.Limits.{passing-keeps-limits, keeping-limits-passes}
 use Rattle.placement.specs.Core.{Table}
-use Rattle.records.specs.Number.{bigEndianFrom, numberAt, fourBytes}
+use Rattle.records.specs.Number.{numberAt, fourBytes}
 use Rattle.records.specs.Reading.{Reading, table, refused, rowIn, readRow, readCount, readRecord}
 use Rattle.records.specs.Report.{rowRecord, countRecord}
 use Rattle.records.proofs.Number.{AllBelow, all-below-drop, number-reads-back, front-number-bytes}
@@ -40,7 +40,7 @@ row-reads-back row after within i =
     record {
       C = number-reads-back (row .C) (omega arith) i;
       D = number-reads-back (row .D) (omega arith) i;
-      T = number-reads-back (row .T) (omega arith) i
+      T = number-reads-back (row .T) (omega arith) i;
     }
 
 -- a kind 2 record is read as its row, and reading goes on behind it
@@ -73,10 +73,10 @@ count-read :
 unfolding readCount
 count-read cores rows row [] t e = absurd (refusal-no-table e)
 count-read cores [] row (count ∷ after) t e = absurd (refusal-no-table e)
-count-read cores (first ∷ rows) row (count ∷ []) t e = 
-   let passed = test-passed (eqb count (length (first ∷ rows))) _ _ e in
-   let count-right = eqb-true count _ (passed .0) in
-   count-record (cc) (omega arith) (cc)
+count-read cores (first ∷ rows) row (count ∷ []) t e =
+    let passed = test-passed (eqb count (length (first ∷ rows))) _ _ e in
+    let count-right = eqb-true count _ (passed .0) in
+    count-record (cc) (omega arith) (cc)
 count-read cores (first ∷ rows) row (count ∷ (byte ∷ after)) t e = absurd (refusal-no-table (test-passed (eqb count _) _ _ e .1))
 
 -- a record that is read on the way to a table is a row's or the count's
@@ -116,5 +116,5 @@ whole-body body whole below =
       front-number-bytes (drop 4 body) (omega (arith, length-drop 4 body)) (all-below-drop 256 4 body below),
       front-number-bytes (drop 8 body) (omega (arith, length-drop 8 body)) (all-below-drop 256 8 body below),
       drop-drop 4 4 body,
-      drop-drop 4 8 body
+      drop-drop 4 8 body,
     )

@@ -19,7 +19,7 @@ passing-keeps-limits row passes =
       runs = leb-true _ _ (second .0);
       by-deadline = leb-true _ _ (second .1);
       by-period = leb-true _ _ (third .1);
-      by-million = leb-true _ _ (last .1)
+      by-million = leb-true _ _ (last .1);
     }
 
 -- a row that keeps the limits passes the test
