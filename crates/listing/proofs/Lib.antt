@@ -1,0 +1,3 @@
+-- Laws of the listing.
+pub mod Decimal
+pub mod SystemAllowance
