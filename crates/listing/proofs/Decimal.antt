@@ -1,6 +1,6 @@
--- Decimal numbers as the listing prints them: digits with no leading zero, from which the number reads back. And the header's length.
+-- Decimal numbers as the listing prints them: digits with no leading zero, from which the number reads back.
 use mathlib.Core.Path.{_≡_, refl, ap, _∙_}
-use Prim.Native.Nat.{ℕ, zero, suc, _+_, _-_, _*_, _/_, _%_, _≤_, _<_}
+use Prim.Native.Nat.{ℕ, zero, suc, _+_, _-_, _*_, _≤_, _<_}
 use native.Mathlib.Nat.{le-of-suc-le-suc}
 use mathlib.Core.Bool.{Bool, true, false}
 use mathlib.Core.List.{List, [], _∷_}
@@ -8,22 +8,19 @@ use native.Mathlib.Omega.{arith}
 use lib.Dec.{ltb}
 use lib.ListN.{length, getD}
 use borrow.Author.Tests.{ltb-true, ltb-false}
-use Rattle.listing.specs.Listing.{headerLine, digitsBefore, decimal}
-
--- the header line is 28 bytes
-pub header-line-length : length headerLine ≡ 28
-header-line-length = refl
+use Rattle.listing.specs.Listing.{digitsBefore, decimal}
 
 -- the number that decimal digits are, after those that made `so-far`
 unfoldable pub decimalFrom : ℕ → List ℕ → ℕ
 decimalFrom so-far [] = so-far
 decimalFrom so-far (digit ∷ digits) = decimalFrom (so-far * 10 + (digit - 48)) digits
 
--- bytes that are all digits
+-- a byte that is a digit
 pub record IsDigit (byte : ℕ) : Type 0 where
   pub from-zero : 48 ≤ byte
   pub to-nine : byte ≤ 57
 
+-- bytes that are all digits
 abbrev pub AllDigits : List ℕ → Type 0
 AllDigits bytes = (k : ℕ) → k < length bytes → IsDigit (getD bytes k 0)
 
@@ -39,15 +36,26 @@ digit-before : (digit : ℕ) (behind : List ℕ) → digit < 10 → AllDigits be
 digit-before digit behind small digits zero inside = omega arith
 digit-before digit behind small digits (suc k) inside = digits k (le-of-suc-le-suc inside)
 
+-- the digits of the tens before the last digit
+tens-before : (n tens digit : ℕ) (behind digits : List ℕ) → 0 < tens → digit < 10 → tens * 10 + digit ≡ n → DigitsOf tens ((48 + digit) ∷ behind) digits → DigitsOf n behind digits
+unfolding decimalFrom
+tens-before n tens digit behind digits some small sum before =
+    record {
+      some-digit = before .some-digit;
+      value = before .value ∙ ap (λ so-far. decimalFrom so-far behind) (omega arith);
+      are-digits = λ behind-digits. before .are-digits (digit-before digit behind small behind-digits);
+      no-leading-zero = λ first. omega (arith, before .no-leading-zero first);
+    }
+
 -- with steps enough, the digits of n come before those that follow
 digits-of : (steps n : ℕ) (behind : List ℕ) → n < steps → DigitsOf n behind (digitsBefore steps n behind)
 unfolding digitsBefore decimalFrom
 digits-of zero n behind enough = absurd (omega arith)
-digits-of (suc steps) n behind enough = go (ltb n 10) refl (digits-of steps (n / 10) ((48 + n % 10) ∷ behind))
+digits-of (suc steps) n behind enough = go (ltb n 10) refl (digits-of steps)
   where
     go :
         (one-digit : Bool) → ltb n 10 ≡ one-digit
-        → (n / 10 < steps → DigitsOf (n / 10) ((48 + n % 10) ∷ behind) (digitsBefore steps (n / 10) ((48 + n % 10) ∷ behind)))
+        → ((m : ℕ) (after : List ℕ) → m < steps → DigitsOf m after (digitsBefore steps m after))
         → DigitsOf n behind (digitsBefore (suc steps) n behind)
     go true one-digit before =
         let small = ltb-true n 10 one-digit in
@@ -60,15 +68,9 @@ digits-of (suc steps) n behind enough = go (ltb n 10) refl (digits-of steps (n /
         })
     go false more-digits before =
         let large = ltb-false n 10 more-digits in
-        let tens = before (omega arith) in
-        rw (more-digits, digitsBefore)
-        (record {
-          some-digit = tens .some-digit;
-          value = tens .value ∙ ap (λ so-far. decimalFrom so-far behind) (omega arith);
-          are-digits = λ digits. tens .are-digits (digit-before (n % 10) behind (omega arith) digits);
-          no-leading-zero = λ first. omega (arith, tens .no-leading-zero first);
-        })
+        rw (more-digits, digitsBefore) (tens-before n _ _ behind _ (omega arith) (omega arith) (omega arith) (before _ _ (omega arith)))
 
+-- what is known of the digits of n
 decimal-digits : (n : ℕ) → DigitsOf n [] (decimal n)
 unfolding decimal
 decimal-digits n = digits-of (suc n) n [] (omega arith)

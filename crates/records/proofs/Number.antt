@@ -39,6 +39,7 @@ number-reads-back n small =
 
 -- four bytes, before others
 module _ (a b c d : ℕ) (others : List ℕ) (below : AllBelow 256 (a ∷ b ∷ c ∷ d ∷ others)) where
+  -- each is below 256
   each-below : (a < 256) × (b < 256) × (c < 256) × (d < 256)
   each-below = (below 0 (omega arith), below 1 (omega arith), below 2 (omega arith), below 3 (omega arith))
 

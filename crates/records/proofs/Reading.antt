@@ -111,6 +111,7 @@ record TableRead (bytes : List ℕ) (t : Table) : Type 0 where
   within : TableWithin t
   same-bytes : AllBelow 256 bytes → bytes ≡ tableBytes t
 
+-- both follow from what was read behind kind 1
 table-read : (bytes : List ℕ) (t : Table) → readTable bytes ≡ table t → TableRead bytes t
 unfolding readTable readCores tableBytes tableRecords
 table-read [] t e = absurd (refusal-no-table e)

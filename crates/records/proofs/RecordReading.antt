@@ -67,6 +67,7 @@ pub data RecordRead (cores : ℕ) (rows : List Row) (row : List ℕ → Reading)
   row-record : (body : List ℕ) → bytes ≡ 2 ∷ body → row body ≡ table t → RecordRead cores rows row bytes t
   count-record : bytes ≡ countRecord rows → 1 ≤ length rows → t ≡ record { cores = cores; rows = rows } → RecordRead cores rows row bytes t
 
+-- behind a kind 4 byte there is the number of rows read, and nothing else
 count-read :
     (cores : ℕ) (rows : List Row) (row : List ℕ → Reading) (body : List ℕ) (t : Table) → readCount cores rows body ≡ table t
     → RecordRead cores rows row (4 ∷ body) t
