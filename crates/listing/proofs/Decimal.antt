@@ -27,9 +27,9 @@ AllDigits bytes = (k : ℕ) → k < length bytes → IsDigit (getD bytes k 0)
 -- digits of n that stand before others
 record DigitsOf (n : ℕ) (behind digits : List ℕ) : Type 0 where
   some-digit : 1 ≤ length digits
+  no-leading-zero : getD digits 0 0 ≡ 48 → n ≡ 0
   value : decimalFrom 0 digits ≡ decimalFrom n behind
   are-digits : AllDigits behind → AllDigits digits
-  no-leading-zero : getD digits 0 0 ≡ 48 → n ≡ 0
 
 -- a digit before digits
 digit-before : (digit : ℕ) (behind : List ℕ) → digit < 10 → AllDigits behind → AllDigits ((48 + digit) ∷ behind)
@@ -42,9 +42,9 @@ unfolding decimalFrom
 tens-before n tens digit behind digits some small sum before =
     record {
       some-digit = before .some-digit;
+      no-leading-zero = λ first. omega (arith, before .no-leading-zero first);
       value = before .value ∙ ap (λ so-far. decimalFrom so-far behind) (omega arith);
       are-digits = λ behind-digits. before .are-digits (digit-before digit behind small behind-digits);
-      no-leading-zero = λ first. omega (arith, before .no-leading-zero first);
     }
 
 -- with steps enough, the digits of n come before those that follow
@@ -62,9 +62,9 @@ digits-of (suc steps) n behind enough = go (ltb n 10) refl (digits-of steps)
         rw (one-digit, digitsBefore)
         (record {
           some-digit = omega arith;
+          no-leading-zero = omega arith;
           value = ap (λ so-far. decimalFrom so-far behind) (omega arith);
           are-digits = digit-before n behind small;
-          no-leading-zero = omega arith;
         })
     go false more-digits before =
         let large = ltb-false n 10 more-digits in

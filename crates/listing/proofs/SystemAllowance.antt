@@ -36,6 +36,10 @@ front-swapped figures next all a is = go (is .row) (is .in-table) (is .its-allow
     go (suc zero) inside its = record { row = 0; in-table = omega arith; its-allowance = its; smallest = at }
     go (suc (suc row)) inside its = record { row = suc (suc row); in-table = inside; its-allowance = its; smallest = at }
 
+-- the work goes on in the same way from the same allowance
+carried : {all : List Figures} (a b : ℕ) (others : List Figures) → a ≡ b → IsSystemAllowance all (smallestAllowance a others) → IsSystemAllowance all (smallestAllowance b others)
+carried a b others same is = rw (← same) is
+
 -- the smallest allowance of a row and others
 smallest-allowance : (figures : Figures) (others : List Figures) → IsSystemAllowance (figures ∷ others) (smallestAllowance (figures .allowance) others)
 unfolding smallestAllowance
@@ -53,11 +57,11 @@ smallest-allowance figures (next ∷ others) =
         → IsSystemAllowance (next ∷ others) (smallestAllowance (next .allowance) others)
         → IsSystemAllowance (figures ∷ next ∷ others) (smallestAllowance (figures .allowance) (next ∷ others))
     go true no-larger with-figures with-next =
-        let is-min : min (figures .allowance) (next .allowance) ≡ figures .allowance = omega (arith, leb-true) in
-        rw is-min (front-swapped next figures others _ (larger-in-front next (figures ∷ others) _ (omega (arith, leb-true, with-figures .smallest 0 (omega arith))) with-figures))
+        carried _ _ others (omega (arith, leb-true))
+        (front-swapped next figures others _ (larger-in-front next (figures ∷ others) _ (omega (arith, leb-true, with-figures .smallest 0 (omega arith))) with-figures))
     go false larger with-figures with-next =
-        let is-min : min (figures .allowance) (next .allowance) ≡ next .allowance = omega (arith, leb-false) in
-        rw is-min (larger-in-front figures (next ∷ others) _ (omega (arith, leb-false, with-next .smallest 0 (omega arith))) with-next)
+        carried _ _ others (omega (arith, leb-false))
+        (larger-in-front figures (next ∷ others) _ (omega (arith, leb-false, with-next .smallest 0 (omega arith))) with-next)
 
 -- of a table with a row, the listing's is the system's allowance
 pub system-allowance-smallest : (all : List Figures) → 1 ≤ length all → IsSystemAllowance all (systemAllowance all)

@@ -28,5 +28,4 @@ figures-records-length all = flat-map-length figuresRecord 10 (λ figures. refl)
 -- a report has 4 + 23n bytes
 pub report-length : (t : Table) (all : List Figures) → length all ≡ length (t .rows) → length (reportBytes t all) ≡ reportLength (length (t .rows))
 unfolding reportBytes
-report-length t all one-each =
-    simp length-append (omega (arith, table-records-length t, figures-records-length all))
+report-length t all one-each = simp (length-append, table-records-length, figures-records-length) (omega arith)

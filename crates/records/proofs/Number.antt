@@ -1,6 +1,6 @@
 -- Numbers below 2^32 and their four bytes: each determines the other.
 use mathlib.Core.Path.{_≡_, refl, ap}
-use Prim.Native.Nat.{ℕ, zero, suc, _+_, _*_, _/_, _%_, _^_, _≤_, _<_}
+use Prim.Native.Nat.{ℕ, zero, suc, _+_, _/_, _^_, _≤_, _<_}
 use mathlib.Core.List.{List, [], _∷_, _++_}
 use native.Mathlib.Omega.{arith}
 use native.Mathlib.Nat.{mod-eq-of-lt, div-div-eq-div-mul}
@@ -30,12 +30,9 @@ four-bytes-below n (suc (suc zero)) inside = omega arith
 four-bytes-below n (suc (suc (suc zero))) inside = omega arith
 four-bytes-below n (suc (suc (suc (suc k)))) inside = omega arith
 
--- a number below 2^32 reads back from its four bytes
-pub number-reads-back : (n : ℕ) → n < 2 ^ 32 → bigEndianFrom 0 (fourBytes n) ≡ n
-unfolding fourBytes bigEndianFrom
-number-reads-back n small =
-    let top : n / 16777216 < 256 = omega arith in
-    omega (arith, mod-eq-of-lt top, div-div-eq-div-mul n 256 256, div-div-eq-div-mul n 65536 256)
+-- four bytes are the same where each is
+same-four : {a b c d e f g h : ℕ} → a ≡ e → b ≡ f → c ≡ g → d ≡ h → a ∷ b ∷ c ∷ d ∷ [] ≡ e ∷ f ∷ g ∷ h ∷ []
+same-four p q r s = cc
 
 -- four bytes, before others
 module _ (a b c d : ℕ) (others : List ℕ) (below : AllBelow 256 (a ∷ b ∷ c ∷ d ∷ others)) where
@@ -51,13 +48,14 @@ module _ (a b c d : ℕ) (others : List ℕ) (below : AllBelow 256 (a ∷ b ∷ 
   -- they are the four bytes of that number
   pub four-bytes-read-back : fourBytes (bigEndianFrom 0 (a ∷ b ∷ c ∷ d ∷ [])) ≡ a ∷ b ∷ c ∷ d ∷ []
   unfolding fourBytes bigEndianFrom
-  four-bytes-read-back =
-      let number = (((0 + a) * 256 + b) * 256 + c) * 256 + d in
-      let e : number / 16777216 % 256 ≡ a = omega (arith, each-below) in
-      let f : number / 65536 % 256 ≡ b = omega (arith, each-below) in
-      let g : number / 256 % 256 ≡ c = omega (arith, each-below) in
-      let h : number % 256 ≡ d = omega (arith, each-below) in
-      cc
+  four-bytes-read-back = same-four (omega (arith, each-below)) (omega (arith, each-below)) (omega (arith, each-below)) (omega (arith, each-below))
+
+-- a number below 2^32 reads back from its four bytes
+pub number-reads-back : (n : ℕ) → n < 2 ^ 32 → bigEndianFrom 0 (fourBytes n) ≡ n
+unfolding fourBytes bigEndianFrom
+number-reads-back n small =
+    let top : n / 16777216 < 256 = omega arith in
+    omega (arith, mod-eq-of-lt top, div-div-eq-div-mul n 256 256, div-div-eq-div-mul n 65536 256)
 
 -- bytes that are at least four begin with the four bytes of the number at their front
 pub front-number-bytes : (bytes : List ℕ) → 4 ≤ length bytes → AllBelow 256 bytes → fourBytes (numberAt 0 bytes) ++ drop 4 bytes ≡ bytes

@@ -1,5 +1,4 @@
--- Tables and their bytes: a table that is read keeps the rules and has the bytes that were read, and the bytes of a table that keeps
--- the rules are read as that table.
+-- A table that is read keeps the rules, and has the bytes that were read.
 use mathlib.Core.Path.{_≡_, ap, _∙_, sym}
 use Prim.Native.Nat.{ℕ, zero, suc, _≤_, suc-le-suc}
 use native.Mathlib.Nat.{le-of-suc-le-suc}
@@ -9,7 +8,7 @@ use native.Mathlib.Omega.{arith}
 use lib.Dec.{leb, eqb}
 use lib.ListN.{length, drop}
 use lib.Seq.{append-snoc}
-use borrow.Author.Tests.{leb-true, le-leb, eqb-true}
+use borrow.Author.Tests.{leb-true, eqb-true}
 use Rattle.theory.specs.declared.Answer.the-variants.{RowsOutOfRange}
 use Rattle.theory.specs.Row.{Row, WithinLimits, AllWithin}
 use Rattle.theory.proofs.Limits.{both-pass}
@@ -18,25 +17,12 @@ use Rattle.records.specs.Number.{fourBytes}
 use Rattle.records.specs.Reading.{table, refused, TableWithin, rowIn, readRow, readRows, readCores, readTable}
 use Rattle.records.specs.Report.{rowRecord, countRecord, tableRecords, tableBytes}
 use Rattle.records.proofs.Number.{AllBelow, all-below-drop}
-use Rattle.records.proofs.RecordReading.{rowBody, refusal-no-table, test-passed, row-record-read, count-record-read, RecordRead, row-record, count-record, record-read, row-read, whole-body}
+use Rattle.records.proofs.ReadingRecord.{rowBody, refusal-no-table, test-passed, RecordRead, row-record, count-record, record-read, row-read, whole-body}
 
 -- a row within the limits before others within them
 within-cons : (row : Row) (rows : List Row) → WithinLimits row → AllWithin rows → AllWithin (row ∷ rows)
 within-cons row rows here others zero inside = here
 within-cons row rows here others (suc k) inside = others k (le-of-suc-le-suc inside)
-
--- the rest of a table behind the rows read so far is read
-rows-read-back :
-    (left cores : ℕ) (rows more : List Row) → AllWithin more → length more ≤ left → 1 ≤ length (rows ++ more)
-    → readRows left cores rows (flatMap rowRecord more ++ countRecord (rows ++ more)) ≡ table (record { cores = cores; rows = rows ++ more })
-unfolding readRows flatMap fourBytes
-rows-read-back zero cores rows [] within few some = rw append-nil (count-record-read cores rows _ (rw append-nil at some))
-rows-read-back (suc left) cores rows [] within few some = rw append-nil (count-record-read cores rows _ (rw append-nil at some))
-rows-read-back zero cores rows (row ∷ more) within few some = absurd (omega arith)
-rows-read-back (suc left) cores rows (row ∷ more) within few some =
-    row-record-read cores rows _ row _ (within 0 (omega arith))
-    ∙ rw (← append-snoc rows row more)
-    (rows-read-back left cores (rows ++ (row ∷ [])) more (λ k inside. within (suc k) (suc-le-suc inside)) (le-of-suc-le-suc few) (rw append-snoc some))
 
 -- what was read behind kind 1 and the rows so far, on the way to a table
 record RowsRead (left cores : ℕ) (rows : List Row) (bytes : List ℕ) (t : Table) : Type 0 where
@@ -99,13 +85,6 @@ rows-read (suc left) cores rows bytes t e = go (λ rows bytes e. rows-read left 
         rw is-row (row-before left cores rows t body (read .whole) (read .within) (behind _ _ (read .goes-on)))
     go behind (count-record is-count some is-table) = count-ends (suc left) cores rows t bytes is-count some is-table
 
--- reading the bytes of a table that keeps the rules gives the table
-pub table-reads-back : (t : Table) → TableWithin t → readTable (tableBytes t) ≡ table t
-unfolding readTable readCores tableBytes tableRecords
-table-reads-back t within =
-    rw (le-leb 1 (t .cores) (within .some-core), le-leb (t .cores) 8 (within .no-9th-core), readCores)
-    (rows-read-back 24 (t .cores) [] (t .rows) (within .rows-within) (within .no-25th-row) (within .some-row))
-
 -- what is known of a table that is read from bytes
 record TableRead (bytes : List ℕ) (t : Table) : Type 0 where
   within : TableWithin t
@@ -118,16 +97,16 @@ table-read [] t e = absurd (refusal-no-table e)
 table-read (kind ∷ []) t e = absurd (refusal-no-table (test-passed (eqb kind 1) _ _ e .1))
 table-read (kind ∷ (cores ∷ after)) t e =
     let is-first = test-passed (eqb kind 1) _ _ e in
-    let in-range = test-passed (leb 1 cores && leb cores 8) _ _ (is-first .1) in
-    let range = both-pass (leb 1 cores) (leb cores 8) (in-range .0) in
-    let rows = rows-read 24 cores [] after t (in-range .1) in
+    let in-range = test-passed (leb 1 cores && leb cores _) _ _ (is-first .1) in
+    let range = both-pass (leb 1 cores) (leb cores _) (in-range .0) in
+    let rows = rows-read _ cores [] after t (in-range .1) in
     record {
       within = rw (rows .is-table)
           (record {
             some-core = leb-true 1 cores (range .0);
-            no-9th-core = leb-true cores 8 (range .1);
+            no-9th-core = omega (arith, leb-true cores _ (range .1));
             some-row = rows .some-row;
-            no-25th-row = rows .few;
+            no-25th-row = omega (arith, rows .few);
             rows-within = rows .more-within;
           });
       same-bytes = λ below.

@@ -1,26 +1,32 @@
 -- A report holds its table whole: the table reads back from it, and no other table has the same report.
 use mathlib.Core.Path.{_≡_, ap}
-use Prim.Native.Nat.{_+_, _-_, _*_, _/_}
+use Prim.Native.Nat.{ℕ, _+_, _-_, _*_, _/_}
 use mathlib.Core.List.{List, _++_, flatMap, append-assoc}
 use native.Mathlib.Omega.{arith}
-use lib.ListN.{length, length-append}
+use lib.ListN.{length, take, drop, length-append}
 use lib.Seq.{take-at, drop-at}
 use Rattle.placement.specs.Core.{Table}
 use Rattle.placement.specs.Figures.{Figures}
 use Rattle.records.specs.Reading.{table, TableWithin, readTable}
 use Rattle.records.specs.Report.{figuresRecord, countRecord, tableRecords, tableBytes, reportBytes, tableInReport}
 use Rattle.records.proofs.Lengths.{table-records-length, figures-records-length, report-length}
-use Rattle.records.proofs.Reading.{table-reads-back}
+use Rattle.records.proofs.ReadingBack.{table-reads-back}
+
+-- what stands before and behind a middle part
+ends : (front middle back : List ℕ) (m n : ℕ) → length front ≡ m → length (front ++ middle) ≡ n
+    → take m (front ++ (middle ++ back)) ++ drop n (front ++ (middle ++ back)) ≡ front ++ back
+ends front middle back m n e f = rw (take-at front (middle ++ back) m e) (ap (λ bytes. front ++ bytes) (rw append-assoc at (drop-at (front ++ middle) back n f)))
 
 -- the bytes of the table stand in its report
 pub table-stands-in-report : (t : Table) (all : List Figures) → length all ≡ length (t .rows) → tableInReport (reportBytes t all) ≡ tableBytes t
 unfolding tableInReport tableBytes reportBytes
 table-stands-in-report t all one-each =
     let rows : (length (reportBytes t all) - 4) / 23 ≡ length (t .rows) = omega (arith, report-length t all one-each) in
-    let front = take-at (tableRecords t) (flatMap figuresRecord all ++ countRecord (t .rows)) (2 + 13 * length (t .rows)) (table-records-length t) in
-    let back = drop-at (tableRecords t ++ flatMap figuresRecord all) (countRecord (t .rows)) (2 + 23 * length (t .rows))
-    (omega (arith, length-append (tableRecords t) (flatMap figuresRecord all), table-records-length t, figures-records-length all)) in
-    rw (rows, front) (ap (λ bytes. tableRecords t ++ bytes) (rw append-assoc at back))
+    let figures-behind = length-append (tableRecords t) (flatMap figuresRecord all) in
+    rw rows
+    (ends (tableRecords t) (flatMap figuresRecord all) (countRecord (t .rows)) (2 + 13 * length (t .rows)) (2 + 23 * length (t .rows))
+    (table-records-length t)
+    (omega (arith, figures-behind, table-records-length t, figures-records-length all)))
 
 -- the table reads back from its report
 pub report-reads-back :

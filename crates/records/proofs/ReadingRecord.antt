@@ -1,5 +1,5 @@
--- One record of a table: what is written is read, and what is read was written.
-use mathlib.Core.Path.{_≡_, refl, ap}
+-- One record of a table: what it was when reading came to a table.
+use mathlib.Core.Path.{_≡_, refl}
 use Prim.Native.Nat.{ℕ, _≤_}
 use mathlib.Core.Bool.{Bool, true, false}
 use mathlib.Core.List.{List, [], _∷_, _++_}
@@ -7,10 +7,10 @@ use native.Mathlib.Omega.{arith}
 use lib.Dec.{leb, eqb}
 use lib.ListN.{length, drop, length-drop}
 use lib.Seq.{drop-drop}
-use borrow.Author.Tests.{le-leb, leb-true, eq-eqb, eqb-true}
+use borrow.Author.Tests.{leb-true, eqb-true}
 use Rattle.theory.specs.declared.Answer.{Answer}
 use Rattle.theory.specs.Row.{Row, WithinLimits, withinLimits}
-use Rattle.theory.proofs.Limits.{passing-keeps-limits, keeping-limits-passes}
+use Rattle.theory.proofs.Limits.{passing-keeps-limits}
 use Rattle.placement.specs.Core.{Table}
 use Rattle.records.specs.Number.{numberAt, fourBytes}
 use Rattle.records.specs.Reading.{Reading, table, refused, rowIn, readRow, readCount, readRecord}
@@ -29,39 +29,6 @@ pub test-passed :
 test-passed true x answer e = (refl, e)
 test-passed false x answer e = absurd (refusal-no-table e)
 
--- the body of a kind 2 record, with what comes after
-abbrev pub rowBody : Row → List ℕ → List ℕ
-rowBody row after = fourBytes (row .C) ++ (fourBytes (row .D) ++ (fourBytes (row .T) ++ after))
-
--- the row of a kind 2 record reads back from its body
-row-reads-back : (row : Row) (after : List ℕ) → WithinLimits row → rowIn (rowBody row after) ≡ row
-unfolding fourBytes rowIn numberAt
-row-reads-back row after within i =
-    record {
-      C = number-reads-back (row .C) (omega arith) i;
-      D = number-reads-back (row .D) (omega arith) i;
-      T = number-reads-back (row .T) (omega arith) i;
-    }
-
--- a kind 2 record is read as its row, and reading goes on behind it
-pub row-record-read :
-    (cores : ℕ) (rows : List Row) (next : Row → List ℕ → Reading) (row : Row) (after : List ℕ)
-    → WithinLimits row
-    → readRecord cores rows (readRow rows next) (rowRecord row ++ after) ≡ next row after
-unfolding readRecord readRow fourBytes
-row-record-read cores rows next row after within =
-    let same = row-reads-back row after within in
-    rw (le-leb 12 (length (rowBody row after)) (omega arith), readRow)
-    (rw (same, keeping-limits-passes row within) (ap (λ r. next r after) same))
-
--- a kind 4 record that states the number of rows read is read as the table, if there are rows and nothing comes after
-pub count-record-read :
-    (cores : ℕ) (rows : List Row) (row : List ℕ → Reading) → 1 ≤ length rows
-    → readRecord cores rows row (countRecord rows) ≡ table (record { cores = cores; rows = rows })
-unfolding readRecord readCount
-count-record-read cores [] row some = absurd (omega arith)
-count-record-read cores (first ∷ rows) row some = rw (eq-eqb (length (first ∷ rows)) (length (first ∷ rows)) refl, readCount)
-
 -- what a record was that was read on the way to a table
 pub data RecordRead (cores : ℕ) (rows : List Row) (row : List ℕ → Reading) (bytes : List ℕ) (t : Table) : Type 0 where
   row-record : (body : List ℕ) → bytes ≡ 2 ∷ body → row body ≡ table t → RecordRead cores rows row bytes t
@@ -75,7 +42,7 @@ unfolding readCount
 count-read cores rows row [] t e = absurd (refusal-no-table e)
 count-read cores [] row (count ∷ after) t e = absurd (refusal-no-table e)
 count-read cores (first ∷ rows) row (count ∷ []) t e =
-    let passed = test-passed (eqb count (length (first ∷ rows))) _ _ e in
+    let passed = test-passed (eqb count _) _ _ e in
     let count-right = eqb-true count _ (passed .0) in
     count-record (cc) (omega arith) (cc)
 count-read cores (first ∷ rows) row (count ∷ (byte ∷ after)) t e = absurd (refusal-no-table (test-passed (eqb count _) _ _ e .1))
@@ -108,9 +75,23 @@ row-read rows next body t e =
     let passed = test-passed (withinLimits (rowIn body)) _ _ (long .1) in
     record { whole = leb-true 12 (length body) (long .0); within = passing-keeps-limits (rowIn body) (passed .0); goes-on = passed .1 }
 
+-- the body of a kind 2 record, with what comes after
+abbrev pub rowBody : Row → List ℕ → List ℕ
+rowBody row after = drop 1 (rowRecord row ++ after)
+
+-- the row of a kind 2 record reads back from its body
+pub row-reads-back : (row : Row) (after : List ℕ) → WithinLimits row → rowIn (rowBody row after) ≡ row
+unfolding fourBytes rowIn numberAt
+row-reads-back row after within i =
+    record {
+      C = number-reads-back (row .C) (omega arith) i;
+      D = number-reads-back (row .D) (omega arith) i;
+      T = number-reads-back (row .T) (omega arith) i;
+    }
+
 -- a whole body is that of its row
 pub whole-body : (body : List ℕ) → 12 ≤ length body → AllBelow 256 body → rowBody (rowIn body) (drop 12 body) ≡ body
-unfolding rowIn numberAt
+unfolding rowIn numberAt fourBytes
 whole-body body whole below =
     cc (
       front-number-bytes body (omega arith) below,
