@@ -1,6 +1,7 @@
 -- The bytes of a table that keeps the rules are read as that table.
 use mathlib.Core.Path.{_≡_, refl, ap, _∙_}
-use Prim.Native.Nat.{ℕ, _≤_, zero, suc, suc-le-suc}
+use Prim.Native.Nat.{ℕ, zero, suc, _≤_, suc-le-suc}
+use native.Mathlib.Nat.{le-of-suc-le-suc}
 use mathlib.Core.List.{List, [], _∷_, _++_, flatMap, append-nil}
 use native.Mathlib.Omega.{arith}
 use lib.ListN.{length}
@@ -10,9 +11,8 @@ use Rattle.theory.specs.Row.{Row, WithinLimits, AllWithin}
 use Rattle.theory.proofs.Limits.{keeping-limits-passes}
 use Rattle.placement.specs.Core.{Table}
 use Rattle.records.specs.Number.{fourBytes}
-use Rattle.records.specs.Reading.{Reading, table, readRow, readCount, readRecord, TableWithin, readRows, readCores, readTable}
+use Rattle.records.specs.Reading.{TableWithin, Reading, table, readCount, readRow, readRecord, readRows, readCores, readTable}
 use Rattle.records.specs.Report.{rowRecord, countRecord, tableRecords, tableBytes}
-use native.Mathlib.Nat.{le-of-suc-le-suc}
 use Rattle.records.proofs.ReadingRecord.{rowBody, row-reads-back}
 
 -- a kind 2 record is read as its row, and reading goes on behind it
@@ -34,13 +34,18 @@ unfolding readRecord readCount
 count-record-read cores [] row some = absurd (omega arith)
 count-record-read cores (first ∷ rows) row some = rw (eq-eqb (length (first ∷ rows)) (length (first ∷ rows)) refl, readCount)
 
+-- the count ends the reading, however many rows might still have come
+count-read-back : (left cores : ℕ) (rows : List Row) → 1 ≤ length rows → readRows left cores rows (countRecord rows) ≡ table (record { cores = cores; rows = rows })
+unfolding readRows
+count-read-back zero cores rows some = count-record-read cores rows _ some
+count-read-back (suc left) cores rows some = count-record-read cores rows _ some
+
 -- the rest of a table behind the rows read so far is read
 rows-read-back :
     (left cores : ℕ) (rows more : List Row) → AllWithin more → length more ≤ left → 1 ≤ length (rows ++ more)
     → readRows left cores rows (flatMap rowRecord more ++ countRecord (rows ++ more)) ≡ table (record { cores = cores; rows = rows ++ more })
 unfolding readRows flatMap fourBytes
-rows-read-back zero cores rows [] within few some = rw append-nil (count-record-read cores rows _ (rw append-nil at some))
-rows-read-back (suc left) cores rows [] within few some = rw append-nil (count-record-read cores rows _ (rw append-nil at some))
+rows-read-back left cores rows [] within few some = rw append-nil (count-read-back left cores rows (rw append-nil at some))
 rows-read-back zero cores rows (row ∷ more) within few some = absurd (omega arith)
 rows-read-back (suc left) cores rows (row ∷ more) within few some =
     row-record-read cores rows _ row _ (within 0 (omega arith))

@@ -1,4 +1,4 @@
--- One record of a table: what it was when reading came to a table.
+-- One record of a table: what it was if it was read on the way to a table.
 use mathlib.Core.Path.{_≡_, refl}
 use Prim.Native.Nat.{ℕ, _≤_}
 use mathlib.Core.Bool.{Bool, true, false}
