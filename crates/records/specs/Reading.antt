@@ -1,14 +1,22 @@
 -- What a byte string is as a table, or its refusal 1 to 5 with its row: records from the front, the first fault decides.
-use Prim.Native.Nat.{ℕ, zero, suc}
-use mathlib.Core.Bool.{Bool, true, false, _&&_}
+use Prim.Native.Nat.{ℕ, zero, suc, _≤_}
+use mathlib.Core.Bool.{true, false, _&&_}
 use mathlib.Core.List.{List, [], _∷_, _++_}
 use lib.Dec.{leb, eqb}
 use lib.ListN.{length, drop}
 use Rattle.theory.specs.declared.Answer.{Answer}
 use Rattle.theory.specs.declared.Answer.the-variants.{RecordsBroken, CoresOutOfRange, RowsOutOfRange, RowBreaksLimits, CountDiffers}
-use Rattle.theory.specs.Row.{Row, withinLimits}
+use Rattle.theory.specs.Row.{Row, withinLimits, AllWithin}
 use Rattle.placement.specs.Core.{Table}
 use Rattle.records.specs.Number.{numberAt}
+
+-- a table that keeps the rules: 1 to 8 cores, 1 to 24 rows, each within the limits
+pub record TableWithin (t : Table) : Type 0 where
+  pub some-core : 1 ≤ t .cores
+  pub no-9th-core : t .cores ≤ 8
+  pub some-row : 1 ≤ length (t .rows)
+  pub no-25th-row : length (t .rows) ≤ 24
+  pub rows-within : AllWithin (t .rows)
 
 pub data Reading : Type 0 where
   table : Table → Reading

@@ -1,7 +1,7 @@
 -- The bytes of a table and of a report.
-use Prim.Native.Nat.{ℕ, _+_, _*_}
+use Prim.Native.Nat.{ℕ, _+_, _-_, _*_, _/_}
 use mathlib.Core.List.{List, [], _∷_, _++_, flatMap}
-use lib.ListN.{length}
+use lib.ListN.{length, take, drop}
 use Rattle.theory.specs.Row.{Row}
 use Rattle.placement.specs.Core.{Table}
 use Rattle.placement.specs.Figures.{Figures}
@@ -38,3 +38,7 @@ reportBytes table figures = tableRecords table ++ (flatMap figuresRecord figures
 -- the bytes of a report on n rows
 abbrev pub reportLength : ℕ → ℕ
 reportLength n = 4 + 23 * n
+
+-- the table's bytes inside a report of 4 + 23n bytes: its first 2 + 13n and its last two
+unfoldable pub tableInReport : List ℕ → List ℕ
+tableInReport report = let n = (length report - 4) / 23 in take (2 + 13 * n) report ++ drop (2 + 23 * n) report

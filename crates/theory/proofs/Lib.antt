@@ -1,6 +1,7 @@
 -- The theory of one core.
 pub mod Tests
 pub mod Gather
+pub mod Limits
 pub mod Ceil
 pub mod Demand
 pub mod Climb

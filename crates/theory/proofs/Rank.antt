@@ -3,7 +3,7 @@
 use mathlib.Core.Path.{_≡_, refl, sym, _∙_, ap, subst}
 use Prim.Native.Nat.{ℕ, zero, suc, _+_, _*_, _≤_, _<_, zero-le}
 use mathlib.Core.Bool.{Bool, true, false}
-use mathlib.Core.Logic.{_⊎_, inl, inr, ⊎-elim}
+use mathlib.Core.Logic.{_↔_, _⊎_, inl, inr, ⊎-elim}
 use mathlib.Core.List.{List, [], _∷_, _++_, map, List·Memᴰ}
 use native.Mathlib.Omega.{arith}
 use native.Mathlib.Nat.{le-of-eq, le-of-lt, le-refl, le-trans}
@@ -15,7 +15,7 @@ use Rattle.theory.specs.Gather.{sum, keep, sort}
 use Rattle.theory.specs.Rank.{places, above, rival, rivals, levels}
 use Rattle.theory.specs.Response.{ceil, demand, load, own}
 use Rattle.theory.proofs.Gather.{All, Ordered, where-passes, where-passes-true, where-passes-false, T-true, all-map, all-both, all-at, mem-keep, mem-upFrom, all-keep, keep-passes, all-upFrom, mem-of-sort, mem-of-keep, true-of, sum-append, sum-sort, sum-keep-le, mem-getD, sum-keep, sum-le, sum-eq, upFrom-ascending, ordered-keep, ordered-append-split, sort-ordered}
-use Rattle.theory.proofs.Tests.{tied-irreflexive, tied-connected, tied-transitive}
+use Rattle.theory.proofs.Tests.{LessOrTied, less, tied, less-or-tied, passes-less-or-tied, tied-irreflexive, tied-connected, tied-transitive}
 use Rattle.theory.proofs.Demand.{ask, levelDemand, demand-of-first, row-of-place}
 
 module _ (rows : List Row) where
@@ -24,6 +24,14 @@ module _ (rows : List Row) where
 
   pub above-connected : (x y : ℕ) → (x ≡ y → ⊥) → T (above rows x y) ⊎ T (above rows y x)
   above-connected x y = tied-connected (rowAt rows x .D) (rowAt rows y .D) x y
+
+  -- rank in words: the smaller D ranks higher; of equal D, the earlier row
+  pub above-exactly : (h k : ℕ) → T (above rows h k) ↔ ((rowAt rows h .D < rowAt rows k .D) ⊎ ((rowAt rows h .D ≡ rowAt rows k .D) × (h < k)))
+  above-exactly h k = (λ t. by-cases (less-or-tied _ _ h k t), ⊎-elim (λ l. passes-less-or-tied _ _ h k (less l)) (λ s. passes-less-or-tied _ _ h k (tied (s .0) (s .1))))
+    where
+      by-cases : LessOrTied (rowAt rows h .D) (rowAt rows k .D) h k → (rowAt rows h .D < rowAt rows k .D) ⊎ ((rowAt rows h .D ≡ rowAt rows k .D) × (h < k))
+      by-cases (less l) = inl l
+      by-cases (tied e l) = inr (e, l)
 
   -- a row ranked above is a rival
   pub above-rival : (h k : ℕ) → T (above rows h k) → T (rival rows h k)

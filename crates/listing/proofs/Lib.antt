@@ -1,0 +1,4 @@
+-- Laws of the listing.
+pub mod Header
+pub mod Decimal
+pub mod SystemAllowance

@@ -1,0 +1,8 @@
+-- Laws of records: what is written reads back, and what is read is what was written.
+pub mod Number
+pub mod ReadingRecord
+pub mod Reading
+pub mod ReadingBack
+pub mod Lengths
+pub mod Report
+pub mod ListBytes
