@@ -19,12 +19,6 @@ use Rattle.theory.proofs.Tests.{LessOrTied, less, tied, less-or-tied, p
 use Rattle.theory.proofs.Demand.{ask, levelDemand, demand-of-first, row-of-place}
 
 module _ (rows : List Row) where
-  pub above-transitive : (x y z : ℕ) → T (above rows x y) → T (above rows y z) → T (above rows x z)
-  above-transitive x y z = tied-transitive (rowAt rows x .D) (rowAt rows y .D) (rowAt rows z .D) x y z
-
-  pub above-connected : (x y : ℕ) → (x ≡ y → ⊥) → T (above rows x y) ⊎ T (above rows y x)
-  above-connected x y = tied-connected (rowAt rows x .D) (rowAt rows y .D) x y
-
   -- rank in words: the smaller D ranks higher; of equal D, the earlier row
   pub above-exactly : (h k : ℕ) → T (above rows h k) ↔ ((rowAt rows h .D < rowAt rows k .D) ⊎ ((rowAt rows h .D ≡ rowAt rows k .D) × (h < k)))
   above-exactly h k = (λ t. by-cases (less-or-tied _ _ h k t), ⊎-elim (λ l. passes-less-or-tied _ _ h k (less l)) (λ s. passes-less-or-tied _ _ h k (tied (s .0) (s .1))))
@@ -32,6 +26,12 @@ module _ (rows : List Row) where
       by-cases : LessOrTied (rowAt rows h .D) (rowAt rows k .D) h k → (rowAt rows h .D < rowAt rows k .D) ⊎ ((rowAt rows h .D ≡ rowAt rows k .D) × (h < k))
       by-cases (less l) = inl l
       by-cases (tied e l) = inr (e, l)
+
+  pub above-transitive : (x y z : ℕ) → T (above rows x y) → T (above rows y z) → T (above rows x z)
+  above-transitive x y z = tied-transitive (rowAt rows x .D) (rowAt rows y .D) (rowAt rows z .D) x y z
+
+  pub above-connected : (x y : ℕ) → (x ≡ y → ⊥) → T (above rows x y) ⊎ T (above rows y x)
+  above-connected x y = tied-connected (rowAt rows x .D) (rowAt rows y .D) x y
 
   -- a row ranked above is a rival
   pub above-rival : (h k : ℕ) → T (above rows h k) → T (rival rows h k)
