@@ -1,5 +1,8 @@
 -- The lines that the bench program prints, as bytes: document 01, "The listing". Each line ends in a newline, the last too.
 use Prim.Native.Nat.{ℕ, zero, suc, _+_, _/_, _%_, min}
+use Prim.Native.Char.{code}
+use Prim.Native.String as String
+use Prim.Native.String.{String}
 use mathlib.Core.Bool.{true, false}
 use mathlib.Core.List.{List, [], _∷_, _++_}
 use lib.Dec.{ltb}
@@ -7,21 +10,14 @@ use Rattle.theory.specs.declared.Answer.{Answer}
 use Rattle.theory.specs.Answer.{numberOf, rowOf}
 use Rattle.placement.specs.Figures.{Figures}
 
--- `row core response allowance` and a newline: 28 bytes
-abbrev pub headerLine : List ℕ
-headerLine = 114 ∷ 111 ∷ 119 ∷ 32 ∷ 99 ∷ 111 ∷ 114 ∷ 101 ∷ 32 ∷ 114 ∷ 101 ∷ 115 ∷ 112 ∷ 111 ∷ 110 ∷ 115 ∷ 101 ∷ 32 ∷ 97 ∷ 108 ∷ 108 ∷ 111 ∷ 119 ∷ 97 ∷ 110 ∷ 99 ∷ 101 ∷ 10 ∷ []
+-- the bytes of a text of ASCII characters
+unfoldable pub ascii : String → List ℕ
+ascii String.[] = []
+ascii (String._∷_ character text) = code character ∷ ascii text
 
--- `system ` with its space
-abbrev pub systemWord : List ℕ
-systemWord = 115 ∷ 121 ∷ 115 ∷ 116 ∷ 101 ∷ 109 ∷ 32 ∷ []
-
--- `refused ` with its space
-abbrev pub refusedWord : List ℕ
-refusedWord = 114 ∷ 101 ∷ 102 ∷ 117 ∷ 115 ∷ 101 ∷ 100 ∷ 32 ∷ []
-
--- ` row ` with its spaces
-abbrev pub rowWord : List ℕ
-rowWord = 32 ∷ 114 ∷ 111 ∷ 119 ∷ 32 ∷ []
+-- the header line, newline counted: 28 bytes
+unfoldable pub headerLine : List ℕ
+headerLine = ascii "row core response allowance\n"
 
 -- the digits of n in front of those that follow; the steps are bounded only so that it computes
 unfoldable pub digitsBefore : ℕ → ℕ → List ℕ → List ℕ
@@ -52,8 +48,8 @@ systemAllowance (figures ∷ others) = smallestAllowance (figures .allowance) ot
 
 -- the listing of a certified table
 unfoldable pub listing : List Figures → List ℕ
-listing all = headerLine ++ (rowLines 1 all ++ (systemWord ++ (decimal (systemAllowance all) ++ (10 ∷ []))))
+listing all = headerLine ++ (rowLines 1 all ++ (ascii "system " ++ (decimal (systemAllowance all) ++ (10 ∷ []))))
 
 -- `refused N row R`
 unfoldable pub refusal : Answer → List ℕ
-refusal answer = refusedWord ++ (decimal (numberOf answer) ++ (rowWord ++ (decimal (rowOf answer) ++ (10 ∷ []))))
+refusal answer = ascii "refused " ++ (decimal (numberOf answer) ++ (ascii " row " ++ (decimal (rowOf answer) ++ (10 ∷ []))))

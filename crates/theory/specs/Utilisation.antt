@@ -18,9 +18,3 @@ work rows P = sum (λ k. rowAt rows k .C * (P / rowAt rows k .T)) (places rows)
 -- utilisation at most one
 abbrev pub AtMostOne : List Row → Type 0
 AtMostOne rows = (P : ℕ) → CommonMultiple rows P → work rows P ≤ P
-
--- utilisation below one
-pub record BelowOne (rows : List Row) : Type 0 where
-  pub multiple : ℕ
-  pub is-common : CommonMultiple rows multiple
-  pub less : work rows multiple < multiple

@@ -1,0 +1,2 @@
+-- Document 01, "Sheets to reproduce": those marked P.
+pub mod Sheets

@@ -1,0 +1,120 @@
+-- Sheets 1 to 10 of document 01, as one list, and what each entry says.
+use mathlib.Core.Path.{_≡_}
+use Prim.Native.Nat.{ℕ, suc, _≤_, _<_}
+use mathlib.Core.Logic.{_↔_}
+use mathlib.Core.List.{List, [], _∷_, _++_, map, List·Memᴰ}
+use lib.IntN.{ℤ, pos, negsuc}
+use lib.ListN.{length}
+use Rattle.theory.specs.declared.Answer.{Answer}
+use Rattle.theory.specs.declared.Answer.the-variants.{Accepted, NoCoreTakes, RowMisses}
+use Rattle.theory.specs.Row.{Row}
+use Rattle.theory.specs.Points.{points, slack, quotient, IsBound}
+use Rattle.theory.specs.Utilisation.{CommonMultiple, work}
+use Rattle.theory.specs.Lists.{filled, SetAnswered, PointAnswered}
+use Rattle.placement.specs.Core.{Table}
+use Rattle.placement.specs.Order.{taken}
+use Rattle.placement.specs.Choice.{allowanceFit}
+use Rattle.records.specs.Report.{tableBytes, reportLength}
+use Rattle.listing.specs.Listing.{ascii}
+use Rattle.service.specs.Table.{TableAnswered, Listed}
+
+-- what a sheet says, with rows by their places, which count from 0: place 1 is row 2
+pub data Sheet : Type 0 where
+  set-accepted : List Row → List ℕ → List ℕ → Sheet
+  set-misses : List Row → ℕ → Sheet
+  below-one : List Row → ℕ → Sheet
+  walk-yields : List Row → ℕ → List ℕ → Sheet
+  points-as-set : List Row → ℕ → List ℕ → Sheet
+  bound-on : List Row → ℕ → ℕ → ℤ → Sheet
+  slack-at : List Row → ℕ → ℕ → ℤ → Sheet
+  quotient-at : List Row → ℕ → ℕ → ℕ → ℤ → Sheet
+  order-taken : List Row → List ℕ → Sheet
+  listed : Table → List ℕ → Sheet
+  no-core-takes : Table → ℕ → Sheet
+
+-- the three lists that a set's rows are
+abbrev pub executions : List Row → List ℕ
+executions rows = map (λ row. row .C) rows
+
+abbrev pub deadlines : List Row → List ℕ
+deadlines rows = map (λ row. row .D) rows
+
+abbrev pub periods : List Row → List ℕ
+periods rows = map (λ row. row .T) rows
+
+-- both list services give an answer on the rows, and leave the lists with given content, whatever two long enough lists are lent
+abbrev pub BothAnswer : List Row → Answer → (List ℕ → List ℕ) → (List ℕ → List ℕ) → Type 0
+BothAnswer rows answer first second =
+    (responses allowances : List ℕ)
+    → length rows ≤ length responses
+    → length rows ≤ length allowances
+    → SetAnswered (executions rows) (deadlines rows) (periods rows) responses allowances answer (first responses) (second allowances)
+    × PointAnswered (executions rows) (deadlines rows) (periods rows) responses allowances answer (first responses) (second allowances)
+
+-- THE STATEMENT about a sheet
+abbrev pub Holds : Sheet → Type 0
+Holds (set-accepted rows responses allowances) = BothAnswer rows Accepted (filled responses) (filled allowances)
+Holds (set-misses rows k) = BothAnswer rows (RowMisses (suc k)) (λ before. before) (λ before. before)
+Holds (below-one rows P) = CommonMultiple rows P × (work rows P < P)
+Holds (walk-yields rows k times) = points rows k ≡ times
+Holds (points-as-set rows k times) = (p : ℕ) → List·Memᴰ p (points rows k) ↔ List·Memᴰ p times
+Holds (bound-on rows k i b) = IsBound rows k i b
+Holds (slack-at rows k t z) = slack rows k t ≡ z
+Holds (quotient-at rows k i t z) = quotient rows k i t ≡ z
+Holds (order-taken rows order) = taken rows ≡ order
+Holds (listed table text) = Listed allowanceFit (tableBytes table) text
+Holds (no-core-takes table k) =
+    (report : List ℕ) → reportLength (length (table .rows)) ≤ length report → TableAnswered allowanceFit (tableBytes table) report (NoCoreTakes (suc k)) report
+
+-- a row, written C/D/T in the document
+row : ℕ → ℕ → ℕ → Row
+row c d t = record { C = c; D = d; T = t }
+
+-- the four rows of 001, table 1
+theFour : List Row
+theFour = row 10 60 70 ∷ row 15 85 100 ∷ row 30 190 210 ∷ row 45 260 320 ∷ []
+
+-- the listing of sheet 3, line by line
+listingOfTheFour : List ℕ
+listingOfTheFour =
+    ascii "row core response allowance\n"
+    ++ ascii "1 2 10 50\n"
+    ++ ascii "2 1 15 47\n"
+    ++ ascii "3 1 45 95\n"
+    ++ ascii "4 1 90 110\n"
+    ++ ascii "system 47\n"
+
+-- THE SHEETS
+unfoldable pub sheets : List Sheet
+unfolding row theFour listingOfTheFour
+sheets =
+    -- 1
+    set-accepted theFour (10 ∷ 25 ∷ 55 ∷ 125 ∷ []) (21 ∷ 32 ∷ 65 ∷ 70 ∷ [])
+    -- 2: row 4's walk yields seven, which are four points; its bound on row 1
+    ∷ walk-yields theFour 3 (140 ∷ 200 ∷ 210 ∷ 140 ∷ 200 ∷ 210 ∷ 260 ∷ [])
+    ∷ points-as-set theFour 3 (140 ∷ 200 ∷ 210 ∷ 260 ∷ [])
+    ∷ bound-on theFour 3 0 (pos 21)
+    -- 3: rows 2, 1, 3, 4
+    ∷ order-taken theFour (1 ∷ 0 ∷ 2 ∷ 3 ∷ [])
+    ∷ listed (record { cores = 2; rows = theFour }) listingOfTheFour
+    -- 4
+    ∷ no-core-takes (record { cores = 2; rows = row 6 10 10 ∷ row 4 10 10 ∷ row 4 10 10 ∷ row 3 10 10 ∷ row 3 10 10 ∷ [] }) 4
+    -- 4: although the rows would fit otherwise
+    ∷ set-accepted (row 6 10 10 ∷ row 4 10 10 ∷ []) (6 ∷ 10 ∷ []) (0 ∷ 0 ∷ [])
+    ∷ set-accepted (row 4 10 10 ∷ row 3 10 10 ∷ row 3 10 10 ∷ []) (4 ∷ 7 ∷ 10 ∷ []) (0 ∷ 0 ∷ 0 ∷ [])
+    -- 5
+    ∷ set-accepted (row 1 1 1 ∷ []) (1 ∷ []) (0 ∷ [])
+    -- 6
+    ∷ set-accepted (row 1 1000000 1000000 ∷ []) (1 ∷ []) (999999 ∷ [])
+    -- 7
+    ∷ set-accepted (row 5 10 10 ∷ row 5 10 10 ∷ []) (5 ∷ 10 ∷ []) (0 ∷ 0 ∷ [])
+    -- 8
+    ∷ set-misses (row 5 10 10 ∷ row 6 14 14 ∷ []) 1
+    ∷ below-one (row 5 10 10 ∷ row 6 14 14 ∷ []) 70
+    -- 9
+    ∷ set-accepted (row 5 10 10 ∷ row 10 20 20 ∷ []) (5 ∷ 20 ∷ []) (0 ∷ 0 ∷ [])
+    -- 10
+    ∷ set-misses (row 5 10 10 ∷ row 11 20 20 ∷ []) 1
+    ∷ slack-at (row 5 10 10 ∷ row 11 20 20 ∷ []) 1 20 (negsuc 0)
+    ∷ quotient-at (row 5 10 10 ∷ row 11 20 20 ∷ []) 1 0 20 (negsuc 0)
+    ∷ []
