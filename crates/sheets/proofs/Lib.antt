@@ -1,0 +1,3 @@
+-- The sheets hold.
+pub mod Columns
+pub mod Test
