@@ -1,0 +1,2 @@
+-- Laws of document 01 for one core.
+pub mod Gather
