@@ -5,9 +5,9 @@ use native.Mathlib.Nat.{add-le-add}
 use native.Mathlib.Omega.{arith}
 use mathlib.Core.Bool.{Bool, true, false, _&&_}
 use mathlib.Core.Logic.{_⊎_, inl, inr}
-use mathlib.Core.List.{List, [], _∷_, _++_, List·Memᴰ, List·Memᴰ·head, List·Memᴰ·tail}
+use mathlib.Core.List.{List, [], _∷_, _++_, map, List·Memᴰ, List·Memᴰ·head, List·Memᴰ·tail}
 use lib.Dec.{T, eqb}
-use lib.ListN.{length}
+use lib.ListN.{length, getD}
 use borrow.Author.Tests.{eqb-true, eqb-false}
 use Rattle.theory.specs.Gather.{upFrom, keep, sum, every, insert, sort}
 
@@ -245,6 +245,29 @@ unfolding sort
 length-sort precedes [] = refl
 length-sort precedes (x ∷ xs) = length-insert precedes x (sort precedes xs) ∙ ap suc (length-sort precedes xs)
 
+-- the kept of the numbers after i are as many as those of the numbers from i on that the test shifted by one keeps
+pub length-keep-shift : (test : ℕ → Bool) (i n : ℕ) → length (keep test (upFrom (suc i) n)) ≡ length (keep (λ x. test (suc x)) (upFrom i n))
+unfolding upFrom keep
+length-keep-shift test i zero = refl
+length-keep-shift test i (suc n) = go (test (suc i)) refl (length-keep-shift test (suc i) n)
+  where
+    after : List ℕ
+    after = upFrom (suc i) n
+
+    go :
+        (b : Bool) → test (suc i) ≡ b
+        → length (keep test (upFrom (suc (suc i)) n)) ≡ length (keep (λ x. test (suc x)) after)
+        → length (keep test (suc i ∷ upFrom (suc (suc i)) n)) ≡ length (keep (λ x. test (suc x)) (i ∷ after))
+    go true e h = rw (e, keep) (ap suc h)
+    go false e h = rw (e, keep) h
+
+-- place k of what a function gives at the n numbers from i on
+pub at-map-upFrom : {A : Type 0} (f : ℕ → A) (i n k : ℕ) (default : A) → k < n → getD (map f (upFrom i n)) k default ≡ f (i + k)
+unfolding upFrom
+at-map-upFrom f i zero k default h = absurd (omega arith)
+at-map-upFrom f i (suc n) zero default h = ap f (omega arith)
+at-map-upFrom f i (suc n) (suc k) default h = at-map-upFrom f (suc i) n k default (omega arith) ∙ ap f (omega arith)
+
 -- Order.
 
 -- what implies another between any two numbers does so for the order of a list
@@ -287,39 +310,83 @@ ordered-append-split R (x ∷ xs) ys h =
     let ahead = all-append-split (R x) xs ys (h .0) in
     record { first = (ahead .0, rest .first); second = rest .second; between = (ahead .1, rest .between) }
 
--- The order that `sort` gives, by a relation that is transitive and relates any two different numbers one way or the other.
+-- The order that `sort` gives, by a relation that among the numbers of which P holds is transitive and relates any two one way or the other.
 module _
+    (P : ℕ → Type 0)
     (precedes : ℕ → ℕ → Bool)
-    (transitive : (x y z : ℕ) → T (precedes x y) → T (precedes y z) → T (precedes x z)) where
+    (transitive : (x y z : ℕ) → P x → P y → P z → T (precedes x y) → T (precedes y z) → T (precedes x z)) where
   -- one put into a list in order, which is related to each of it one way or the other
-  pub ordered-insert :
+  pub ordered-insert-among :
       (x : ℕ) (xs : List ℕ)
+      → P x
+      → All P xs
       → All (λ y. T (precedes x y) ⊎ T (precedes y x)) xs
       → Ordered (λ y z. T (precedes y z)) xs
       → Ordered (λ y z. T (precedes y z)) (insert precedes x xs)
   unfolding insert
-  ordered-insert x [] c h = (tt, tt)
-  ordered-insert x (y ∷ ys) c h =
+  ordered-insert-among x [] p ps c h = (tt, tt)
+  ordered-insert-among x (y ∷ ys) p ps c h =
       insert-cases
       (Ordered (λ y z. T (precedes y z)))
       precedes
       x
       y
       ys
-      (λ e. ((T-true (precedes x y) e, all-map ys (λ z. transitive x y z (T-true (precedes x y) e)) (h .0)), h))
-      (λ e. (all-insert (λ z. T (precedes y z)) precedes x ys (other (c .0) e) (h .0), ordered-insert x ys (c .1) (h .1)))
+      (λ e. ((T-true (precedes x y) e, all-map ys (λ z q. transitive x y z p (ps .0) (q .0) (T-true (precedes x y) e) (q .1)) (all-both P (λ z. T (precedes y z)) ys (ps .1) (h .0))), h))
+      (λ e. (all-insert (λ z. T (precedes y z)) precedes x ys (other (c .0) e) (h .0), ordered-insert-among x ys p (ps .1) (c .1) (h .1)))
     where
       other : T (precedes x y) ⊎ T (precedes y x) → precedes x y ≡ false → T (precedes y x)
       other (inl t) e = absurd (T-false (precedes x y) e t)
       other (inr t) e = t
 
-  -- an ascending list sorted by the relation is in its order
-  pub sort-ordered :
-      ((x y : ℕ) → x < y → T (precedes x y) ⊎ T (precedes y x))
+  -- an ascending list of such numbers, sorted by the relation, is in its order
+  pub sort-ordered-among :
+      ((x y : ℕ) → P x → P y → x < y → T (precedes x y) ⊎ T (precedes y x))
       → (xs : List ℕ)
+      → All P xs
       → Ordered _<_ xs
       → Ordered (λ y z. T (precedes y z)) (sort precedes xs)
   unfolding sort
-  sort-ordered connected [] h = tt
-  sort-ordered connected (x ∷ xs) h =
-      ordered-insert x (sort precedes xs) (all-sort (λ y. T (precedes x y) ⊎ T (precedes y x)) precedes xs (all-map xs (connected x) (h .0))) (sort-ordered connected xs (h .1))
+  sort-ordered-among connected [] ps h = tt
+  sort-ordered-among connected (x ∷ xs) ps h =
+      ordered-insert-among
+      x
+      (sort precedes xs)
+      (ps .0)
+      (all-sort P precedes xs (ps .1))
+      (all-sort (λ y. T (precedes x y) ⊎ T (precedes y x)) precedes xs (all-map xs (λ y q. connected x y (ps .0) (q .0) (q .1)) (all-both P (λ y. x < y) xs (ps .1) (h .0))))
+      (sort-ordered-among connected xs (ps .1) (h .1))
+
+-- an ascending list sorted by a relation that is transitive and relates any two different numbers one way or the other is in its order
+pub sort-ordered :
+    (precedes : ℕ → ℕ → Bool)
+    → ((x y z : ℕ) → T (precedes x y) → T (precedes y z) → T (precedes x z))
+    → ((x y : ℕ) → x < y → T (precedes x y) ⊎ T (precedes y x))
+    → (xs : List ℕ)
+    → Ordered _<_ xs
+    → Ordered (λ y z. T (precedes y z)) (sort precedes xs)
+sort-ordered precedes transitive connected xs h =
+    sort-ordered-among (λ x. Unit {0}) precedes (λ x y z p q r. transitive x y z) (λ x y p q. connected x y) xs (all-from xs (λ x m. tt)) h
+
+-- a relation that goes both ways holds between any two of a list in whatever order they stand
+pub sort-symmetric :
+    (R : ℕ → ℕ → Type 0) (precedes : ℕ → ℕ → Bool)
+    → ((x y : ℕ) → R x y → R y x)
+    → (xs : List ℕ)
+    → Ordered R xs
+    → Ordered R (sort precedes xs)
+unfolding sort insert
+sort-symmetric R precedes symmetric [] h = tt
+sort-symmetric R precedes symmetric (x ∷ xs) h = put (sort precedes xs) (all-sort (R x) precedes xs (h .0)) (sort-symmetric R precedes symmetric xs (h .1))
+  where
+    put : (ys : List ℕ) → All (R x) ys → Ordered R ys → Ordered R (insert precedes x ys)
+    put [] a o = (tt, tt)
+    put (y ∷ ys) a o =
+        insert-cases
+        (Ordered R)
+        precedes
+        x
+        y
+        ys
+        (λ e. (a, o))
+        (λ e. (all-insert (R y) precedes x ys (symmetric x y (a .0)) (o .0), put ys (a .1) (o .1)))

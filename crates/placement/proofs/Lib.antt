@@ -1,0 +1,2 @@
+-- Laws of document 01, "Placement".
+pub mod Try
