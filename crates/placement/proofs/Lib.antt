@@ -1,2 +1,4 @@
 -- Laws of document 01, "Placement".
-pub mod Try
+pub mod Compared
+pub mod Fit
+pub mod Order
