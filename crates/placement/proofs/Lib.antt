@@ -2,3 +2,5 @@
 pub mod Compared
 pub mod Fit
 pub mod Order
+pub mod Core
+pub mod Moment

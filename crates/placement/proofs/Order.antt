@@ -53,10 +53,9 @@ taken-before-transitive rows i j k pi pj pk (inl h) (inl g) = inl (utilisation-l
 taken-before-transitive rows i j k pi pj pk (inl h) (inr g) = inl (utilisation-lt (rowAt rows i) (rowAt rows j) (rowAt rows k) pk h (omega arith))
 taken-before-transitive rows i j k pi pj pk (inr h) (inl g) = inl (utilisation-lt-second (rowAt rows i) (rowAt rows j) (rowAt rows k) pi (omega arith) g)
 taken-before-transitive rows i j k pi pj pk (inr h) (inr g) =
-    inr (omega (arith, at-most (rowAt rows i) (rowAt rows k) (omega arith) (omega arith), at-most (rowAt rows k) (rowAt rows i) (omega arith) (omega arith)), omega arith)
-  where
-    at-most : (a c : Row) → rowAt rows j .C * a .T ≤ a .C * rowAt rows j .T → c .C * rowAt rows j .T ≤ rowAt rows j .C * c .T → c .C * a .T ≤ a .C * c .T
-    at-most a c = utilisation-le a (rowAt rows j) c pj
+    let le = utilisation-le (rowAt rows i) (rowAt rows j) (rowAt rows k) pj (omega arith) (omega arith) in
+    let ge = utilisation-le (rowAt rows k) (rowAt rows j) (rowAt rows i) pj (omega arith) (omega arith) in
+    inr (omega arith, omega arith)
 
 -- the places of a table are below its length
 pub places-in : (rows : List Row) → All (λ i. i < length rows) (places rows)
