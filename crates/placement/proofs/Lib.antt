@@ -4,3 +4,6 @@ pub mod Fit
 pub mod Order
 pub mod Core
 pub mod Moment
+pub mod Assumed
+pub mod Certified
+pub mod Determined
