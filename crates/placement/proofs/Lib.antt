@@ -7,3 +7,6 @@ pub mod Moment
 pub mod Assumed
 pub mod Certified
 pub mod Determined
+pub mod Preferred
+pub mod Step
+pub mod Computed
