@@ -1,5 +1,5 @@
 -- What an accepted placement promises of its rows, and that its figures are determined.
-use mathlib.Core.Path.{_≡_, refl, sym, ap, _∙_, subst}
+use mathlib.Core.Path.{_≡_, sym, ap, _∙_, subst}
 use Prim.Native.Nat.{ℕ, _≤_, _<_}
 use native.Mathlib.Omega.{arith}
 use mathlib.Core.List.{List}
@@ -8,7 +8,7 @@ use lib.Seq.{ext-getD}
 use Rattle.theory.specs.Row.{Row, rowAt}
 use Rattle.theory.specs.Response.{Meets, AllMeet, IsResponse}
 use Rattle.theory.specs.Allowance.{IsAllowance}
-use Rattle.placement.specs.Core.{Table, coreRows, coreOf, placeOnCore}
+use Rattle.placement.specs.Core.{Table, coreRows, placeOnCore}
 use Rattle.placement.specs.Choice.{Rule}
 use Rattle.placement.specs.Figures.{Figures, figuresAt, IsFigures, AreFigures, Certified}
 use Rattle.placement.proofs.Assumed.{response-unique, allowance-unique}

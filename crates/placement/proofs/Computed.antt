@@ -1,11 +1,10 @@
 -- The computed certificate is the stated one, by every rule of choice.
-use mathlib.Core.Path.{_≡_, refl, ap, _∙_, subst}
-use Prim.Native.Nat.{ℕ, _≤_, _<_}
+use mathlib.Core.Path.{refl, _∙_}
+use Prim.Native.Nat.{ℕ, _<_}
 use native.Mathlib.Nat.{zero-add}
-use native.Mathlib.Omega.{arith}
 use mathlib.Core.List.{List, [], _∷_, map}
 use lib.ListN.{length, set, replicate, length-map}
-use Rattle.theory.specs.Row.{Row, WithinLimits, AllWithin, rowAt}
+use Rattle.theory.specs.Row.{Row, WithinLimits, AllWithin}
 use Rattle.theory.specs.Rank.{places}
 use Rattle.theory.specs.Response.{Outcome, responds, misses, outcome, AllMeet, Meets, IsResponse, IsOutcome}
 use Rattle.theory.proofs.Gather.{at-map-upFrom, length-upFrom}
@@ -13,11 +12,11 @@ use Rattle.placement.specs.Core.{Table, coreRows, coreOf, placeOnCore}
 use Rattle.placement.specs.Order.{taken}
 use Rattle.placement.specs.Choice.{Rule, IsRule}
 use Rattle.placement.specs.Placement.{Moment, start, step, Stopped}
-use Rattle.placement.specs.Figures.{IsFigures, AreFigures, figuresAt, IsCertificate}
+use Rattle.placement.specs.Figures.{IsFigures, AreFigures, IsCertificate}
 use Rattle.placement.specs.Placing.{Step, toCore, noCore, stepOf, Run, placed, stoppedAt, run, responseOf, figuresOf, certificateOf, certificate}
 use Rattle.placement.proofs.Assumed.{Assumed}
 use Rattle.placement.proofs.Core.{core-rows-each, StandsAt, row-on-core}
-use Rattle.placement.proofs.Moment.{OnSomeCore, Underway, underway, all-placed}
+use Rattle.placement.proofs.Moment.{Underway, underway, all-placed}
 use Rattle.placement.proofs.Step.{IsStep, step-is}
 
 -- what a run from a moment comes to

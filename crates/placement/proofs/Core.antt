@@ -8,7 +8,7 @@ use mathlib.Core.List.{List, [], _∷_}
 use lib.Dec.{eqb}
 use lib.ListN.{length, set, replicate}
 use borrow.Author.Tests.{eqb-true, eqb-false, eq-eqb, ne-eqb}
-use Rattle.theory.specs.Row.{Row, rowAt, WithinLimits, AllWithin}
+use Rattle.theory.specs.Row.{Row, rowAt}
 use Rattle.theory.specs.Gather.{upFrom, keep}
 use Rattle.theory.proofs.Gather.{length-keep-shift}
 use Rattle.placement.specs.Core.{coreRows, coreOf, placeOnCore}

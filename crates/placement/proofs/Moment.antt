@@ -1,12 +1,11 @@
 -- What holds at every moment of a placement, by whatever rule: every core's rows all meet, and every row is on a core of the table or still to be taken.
-use mathlib.Core.Path.{_≡_, refl, sym, _∙_, subst}
+use mathlib.Core.Path.{_≡_, sym, _∙_, subst}
 use Prim.Native.Nat.{ℕ, _≤_, _<_}
 use native.Mathlib.Omega.{arith}
 use mathlib.Core.Logic.{_⊎_, inl, inr, ⊎-elim}
 use mathlib.Core.List.{List, [], _∷_, List·Memᴰ, List·Memᴰ·cases-cons, List·Memᴰ·not-nil}
 use lib.ListN.{length, set, replicate, length-set, length-replicate, getD-replicate}
 use lib.Seq.{getD-set-same, getD-set-other}
-use Rattle.theory.specs.Row.{Row}
 use Rattle.theory.specs.Response.{AllMeet}
 use Rattle.theory.proofs.Gather.{All, Ordered, all-map, all-both}
 use Rattle.placement.specs.Core.{Table, coreRows, coreOf}
