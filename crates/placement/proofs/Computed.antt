@@ -1,5 +1,5 @@
 -- The computed certificate is the stated one, by every rule of choice.
-use mathlib.Core.Path.{refl, _∙_}
+use mathlib.Core.Path.{_≡_, refl, _∙_}
 use Prim.Native.Nat.{ℕ, _<_}
 use native.Mathlib.Nat.{zero-add}
 use mathlib.Core.List.{List, [], _∷_, map}
@@ -12,11 +12,12 @@ use Rattle.placement.specs.Core.{Table, coreRows, coreOf, placeOnCore}
 use Rattle.placement.specs.Order.{taken}
 use Rattle.placement.specs.Choice.{Rule, IsRule}
 use Rattle.placement.specs.Placement.{Moment, start, step, Stopped}
-use Rattle.placement.specs.Figures.{IsFigures, AreFigures, IsCertificate}
+use Rattle.placement.specs.Figures.{IsFigures, AreFigures, Certificate, IsCertificate}
 use Rattle.placement.specs.Placing.{Step, toCore, noCore, stepOf, Run, placed, stoppedAt, run, responseOf, figuresOf, certificateOf, certificate}
 use Rattle.placement.proofs.Assumed.{Assumed}
 use Rattle.placement.proofs.Core.{core-rows-each, StandsAt, row-on-core}
 use Rattle.placement.proofs.Moment.{Underway, underway, all-placed}
+use Rattle.placement.proofs.Determined.{certificate-unique}
 use Rattle.placement.proofs.Step.{IsStep, step-is}
 
 -- what a run from a moment comes to
@@ -33,7 +34,7 @@ module _ (assumed : Assumed) (table : Table) (within : AllWithin (table .rows)) 
   open Assumed assumed using (allowance-is, outcome-is)
 
   -- the computed figures of a row are the stated ones
-  figures-of-is :
+  pub figures-of-is :
       (assignment : List ℕ)
       → Moment rule table assignment []
       → (i : ℕ)
@@ -63,7 +64,7 @@ module _ (assumed : Assumed) (table : Table) (within : AllWithin (table .rows)) 
       meet = underway rule table moment .cores-meet (coreOf assignment i) (all-placed rule table assignment moment i h .from-one)
 
   -- the computed figures of all rows are the stated ones
-  all-figures-are :
+  pub all-figures-are :
       (assignment : List ℕ)
       → Moment rule table assignment []
       → AreFigures (table .rows) assignment (map (figuresOf (table .rows) assignment) (places (table .rows)))
@@ -75,7 +76,7 @@ module _ (assumed : Assumed) (table : Table) (within : AllWithin (table .rows)) 
 
   module _ (is-rule : IsRule rule) where
     -- a run from a moment ends at a moment with no row left, or stops where no core takes the next row
-    run-is : (assignment rest : List ℕ) → Moment rule table assignment rest → IsRun rule table (run rule table assignment rest)
+    pub run-is : (assignment rest : List ℕ) → Moment rule table assignment rest → IsRun rule table (run rule table assignment rest)
     unfolding run
     run-is assignment [] moment = moment
     run-is assignment (i ∷ rest) moment = go (stepOf rule table assignment i) (step-is assumed table within assignment (now .one-each) i (now .left-in-table .0) rule is-rule) (λ m. run-is (set assignment i m) rest)
@@ -91,7 +92,8 @@ module _ (assumed : Assumed) (table : Table) (within : AllWithin (table .rows)) 
         go (toCore m) chosen on = on m (step moment chosen)
         go noCore none on = record { assignment = assignment; rest = rest; moment = moment; no-candidate = none }
 
-    certificate-of-is : (r : Run) → IsRun rule table r → IsCertificate rule table (certificateOf (table .rows) r)
+    -- the certificate of such a run is the stated one
+    pub certificate-of-is : (r : Run) → IsRun rule table r → IsCertificate rule table (certificateOf (table .rows) r)
     unfolding certificateOf
     certificate-of-is (placed assignment) moment = record { assignment = assignment; placed = moment; are-figures = all-figures-are assignment moment }
     certificate-of-is (stoppedAt i) stopped = stopped
@@ -100,3 +102,7 @@ module _ (assumed : Assumed) (table : Table) (within : AllWithin (table .rows)) 
     pub certificate-is : IsCertificate rule table (certificate rule table)
     unfolding certificate
     certificate-is = certificate-of-is (run rule table (replicate (length (table .rows)) 0) (taken (table .rows))) (run-is (replicate (length (table .rows)) 0) (taken (table .rows)) start)
+
+    -- every certificate of the table is the computed one
+    pub certificate-computed : (x : Certificate) → IsCertificate rule table x → x ≡ certificate rule table
+    certificate-computed x h = certificate-unique rule is-rule table x (certificate rule table) h certificate-is

@@ -17,6 +17,7 @@ tie-to-lower-core c d e h =
     let preferred : T (allowanceFit c d) = below-tied (d .allowance) (c .allowance) (c .core) (d .core) e h in
     (preferred, below-asymmetric (c .allowance) (d .allowance) (c .core) (d .core) preferred)
 
+-- Allowance-Fit is a rule of choice
 pub allowance-fit-is-rule : IsRule allowanceFit
 allowance-fit-is-rule =
     record {
@@ -25,11 +26,12 @@ allowance-fit-is-rule =
       decides = λ c d. below-connected (c .allowance) (d .allowance) (c .core) (d .core);
     }
 
--- The row goes to the candidate whose core allowance, new row counted, is greatest; on a tie, the lowest core number.
+-- no candidate has a greater core allowance, new row counted; of those with as great a one, none has a lower core number
 pub record FitsBest (table : Table) (assignment : List ℕ) (i m : ℕ) (choice : Candidate) : Type 0 where
   pub greatest : (other : Candidate) → IsCandidate table assignment i other → other .allowance ≤ choice .allowance
   pub lowest : (other : Candidate) → IsCandidate table assignment i other → other .allowance ≡ choice .allowance → m ≤ other .core
 
+-- what Allowance-Fit chooses fits best
 pub allowance-fit-chooses :
     (table : Table) (assignment : List ℕ) (i m : ℕ) (chosen : IsChosen allowanceFit table assignment i m)
     → FitsBest table assignment i m (chosen .choice)

@@ -41,7 +41,7 @@ underway-start table =
       cores-meet = λ m h. rw (core-rows-none (table .rows) (length (table .rows)) m h) (λ k g. absurd (omega arith));
     }
 
--- a step keeps it
+-- One step.
 module _ (rule : Rule) (table : Table) (assignment : List ℕ) (i : ℕ) (rest : List ℕ) (m : ℕ)
     (was : Underway table assignment (i ∷ rest)) (chosen : IsChosen rule table assignment i m) where
   -- row i comes to its core
@@ -60,6 +60,7 @@ module _ (rule : Rule) (table : Table) (assignment : List ℕ) (i : ℕ) (rest :
         on-table = omega (arith, step-places, chosen .its-core, chosen .is-candidate .on-table);
       }
 
+  -- every row is on a core of the table or still to be taken
   step-placed-or-left : (j : ℕ) → j < length (table .rows) → OnSomeCore table (set assignment i m) j ⊎ List·Memᴰ j rest
   step-placed-or-left j h = go (same-core i j) (was .placed-or-left j h)
     where
@@ -68,6 +69,7 @@ module _ (rule : Rule) (table : Table) (assignment : List ℕ) (i : ℕ) (rest :
       go (inr d) (inl p) = inl (record { from-one = rw (step-leaves j d) (p .from-one); on-table = rw (step-leaves j d) (p .on-table) })
       go (inr d) (inr n) = ⊎-elim (λ e. absurd (d (sym e))) inr (List·Memᴰ·cases-cons n)
 
+  -- every core's rows all meet
   step-cores-meet : (n : ℕ) → 1 ≤ n → AllMeet (coreRows (table .rows) (set assignment i m) n)
   step-cores-meet n h = go (same-core m n)
     where
@@ -75,6 +77,7 @@ module _ (rule : Rule) (table : Table) (assignment : List ℕ) (i : ℕ) (rest :
       go (inl e) = subst (λ c. AllMeet (coreRows (table .rows) (set assignment i m) c)) e (subst (λ c. AllMeet (joined table assignment i c)) (chosen .its-core) (chosen .is-candidate .all-meet))
       go (inr d) = rw (core-rows-other (table .rows) assignment i m n (λ e. omega (arith, was .left-on-none .0)) d) (was .cores-meet n h)
 
+  -- what held at the moment before holds after the step
   pub underway-step : Underway table (set assignment i m) rest
   underway-step =
       record {

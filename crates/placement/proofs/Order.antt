@@ -1,15 +1,14 @@
 -- The order in which rows are taken.
-use mathlib.Core.Path.{_≡_, refl, sym}
+use mathlib.Core.Path.{_≡_, sym}
 use Prim.Native.Nat.{ℕ, _*_, _≤_, _<_}
 use native.Mathlib.Nat.{mul-le-mul-right, mul-lt-mul-of-pos-right, le-of-mul-le-mul-right, lt-of-mul-lt-mul-right}
 use native.Mathlib.Omega.{arith}
 use mathlib.Core.Logic.{_⊎_, inl, inr}
-use mathlib.Core.List.{List, [], _∷_, List·Memᴰ}
+use mathlib.Core.List.{List, List·Memᴰ}
 use lib.Dec.{T}
 use lib.ListN.{length}
 use Rattle.theory.specs.Row.{Row, rowAt, AllWithin}
 use Rattle.theory.specs.Rank.{places}
-use Rattle.theory.specs.Gather.{upFrom, insert, sort}
 use Rattle.theory.proofs.Gather.{All, Ordered, all-map, all-sort, all-upFrom, mem-sort, mem-upFrom, ordered-map, upFrom-ascending, sort-ordered-among, sort-symmetric}
 use Rattle.placement.specs.Order.{cross, takenBefore, taken}
 use Rattle.placement.proofs.Compared.{below-says, below-first, below-tied, below-connected}
@@ -36,6 +35,7 @@ TakenBefore rows i j =
 pub taken-before-says : (rows : List Row) (i j : ℕ) → T (takenBefore rows i j) → TakenBefore rows i j
 taken-before-says rows i j t = below-says (cross rows j i) (cross rows i j) i j t
 
+-- what document 01 says, the test says
 pub says-taken-before : (rows : List Row) (i j : ℕ) → TakenBefore rows i j → T (takenBefore rows i j)
 says-taken-before rows i j (inl h) = below-first (cross rows j i) (cross rows i j) i j h
 says-taken-before rows i j (inr h) = below-tied (cross rows j i) (cross rows i j) i j (h .0) (h .1)
@@ -91,20 +91,3 @@ taken-in-order rows within =
   where
     has-period : (i : ℕ) → i < length rows → 0 < rowAt rows i .T
     has-period i h = let limits = within i h in omega arith
-
--- Document 01, "Errors seen in this trade": in whole per cent 33/100/100 and 1/3/3 tie, though 1/3 is larger. The second is taken first.
-pub a-third-before-33-per-cent : taken (record { C = 33; D = 100; T = 100 } ∷ record { C = 1; D = 3; T = 3 } ∷ []) ≡ 1 ∷ 0 ∷ []
-unfolding taken upFrom insert sort
-a-third-before-33-per-cent = refl
-
--- Sheet 3: the order taken is rows 2, 1, 3, 4, where 1 and 3 tie.
-pub sheet-3-order :
-    taken
-    (record { C = 10; D = 60; T = 70 }
-    ∷ record { C = 15; D = 85; T = 100 }
-    ∷ record { C = 30; D = 190; T = 210 }
-    ∷ record { C = 45; D = 260; T = 320 }
-    ∷ [])
-    ≡ 1 ∷ 0 ∷ 2 ∷ 3 ∷ []
-unfolding taken upFrom insert sort
-sheet-3-order = refl

@@ -22,7 +22,7 @@ use Rattle.placement.proofs.Preferred.{preferred-among, none-preferred}
 pub core-allowance-unique : (rows : List Row) (a b : ℕ) → IsCoreAllowance rows a → IsCoreAllowance rows b → a ≡ b
 core-allowance-unique rows a b p q = omega (arith, p .smallest (q .row) b (q .in-set) (q .its-allowance), q .smallest (p .row) a (p .in-set) (p .its-allowance))
 
--- what a step says of row i
+-- what a computed step has to say of row i: the core to which it goes, or that none takes it
 abbrev pub IsStep : Rule → Table → List ℕ → ℕ → Step → Type 0
 IsStep rule table assignment i (toCore m) = IsChosen rule table assignment i m
 IsStep rule table assignment i noCore = NoCandidate table assignment i
@@ -38,15 +38,15 @@ module _
   open Assumed assumed using (decides-on-time, core-allowance-is)
 
   -- the rows of a core with row i keep the limits
-  joined-within : (m : ℕ) → AllWithin (joined table assignment i m)
+  pub joined-within : (m : ℕ) → AllWithin (joined table assignment i m)
   joined-within m = core-rows-each WithinLimits (table .rows) (set assignment i m) m within
 
-  -- and are not none
-  joined-some : (m : ℕ) → 0 < length (joined table assignment i m)
+  -- the rows of a core with row i are not none
+  pub joined-some : (m : ℕ) → 0 < length (joined table assignment i m)
   joined-some m = omega (arith, stands-at (table .rows) (set assignment i m) i m in-table (omega (arith, length-set assignment i m)) (getD-set-same assignment i m 0 (omega arith)) .in-core)
 
   -- a core that passes the test is a candidate
-  candidate-at-is : (m : ℕ) → (1 ≤ m) × (m < 1 + table .cores) → T (takes table assignment i m) → IsCandidate table assignment i (candidateAt table assignment i m)
+  pub candidate-at-is : (m : ℕ) → (1 ≤ m) × (m < 1 + table .cores) → T (takes table assignment i m) → IsCandidate table assignment i (candidateAt table assignment i m)
   unfolding takes candidateAt
   candidate-at-is m bounds t =
       let all-meet = decides-on-time (joined table assignment i m) (joined-within m) .0 t in
@@ -57,7 +57,8 @@ module _
         its-allowance = core-allowance-is (joined table assignment i m) (joined-within m) all-meet (joined-some m);
       }
 
-  takers-are : All (λ m. IsCandidate table assignment i (candidateAt table assignment i m)) (takers table assignment i)
+  -- the cores that pass the test are candidates
+  pub takers-are : All (λ m. IsCandidate table assignment i (candidateAt table assignment i m)) (takers table assignment i)
   unfolding takers
   takers-are =
       all-map
@@ -71,12 +72,12 @@ module _
       (keep-passes (takes table assignment i) (upFrom 1 (table .cores))))
 
   -- a candidate's core passes the test
-  candidate-taken : (c : Candidate) → IsCandidate table assignment i c → List·Memᴰ (c .core) (takers table assignment i)
+  pub candidate-taken : (c : Candidate) → IsCandidate table assignment i c → List·Memᴰ (c .core) (takers table assignment i)
   unfolding takers takes
   candidate-taken c h = mem-keep (takes table assignment i) (mem-upFrom 1 (table .cores) (c .core) (h .from-one) (omega (arith, h .on-table))) (decides-on-time (joined table assignment i (c .core)) (joined-within (c .core)) .1 (h .all-meet))
 
   -- a candidate is the one computed at its core
-  candidate-computed : (c : Candidate) → IsCandidate table assignment i c → candidateAt table assignment i (c .core) ≡ c
+  pub candidate-computed : (c : Candidate) → IsCandidate table assignment i c → candidateAt table assignment i (c .core) ≡ c
   unfolding candidateAt
   candidate-computed c h =
       λ j.
