@@ -2,6 +2,7 @@
 use mathlib.Core.Path.{_≡_}
 use Prim.Native.Nat.{ℕ, _≤_}
 use mathlib.Core.Bool.{Bool, _&&_, _||_}
+use mathlib.Core.Logic.{_⊎_}
 use mathlib.Core.List.{List}
 use lib.Dec.{T, ltb, eqb}
 use lib.ListN.{set}
@@ -29,6 +30,12 @@ pub record IsCandidate (table : Table) (assignment : List ℕ) (i : ℕ) (candid
 -- a rule of choice: whether the first candidate is preferred to the second
 abbrev pub Rule : Type 0
 Rule = Candidate → Candidate → Bool
+
+-- what a rule has to be for the choice to be there and to be one: of candidates with different core numbers it prefers one, and it goes in no circle
+pub record IsRule (rule : Rule) : Type 0 where
+  pub transitive : (c d e : Candidate) → T (rule c d) → T (rule d e) → T (rule c e)
+  pub asymmetric : (c d : Candidate) → T (rule c d) → T (rule d c) → ⊥
+  pub decides : (c d : Candidate) → (c .core ≡ d .core → ⊥) → T (rule c d) ⊎ T (rule d c)
 
 -- Allowance-Fit: the greater core allowance; on a tie, the lower core number
 abbrev pub allowanceFit : Rule

@@ -1,6 +1,6 @@
 -- The placement, one step after the other. It ends with no row left to take, or stops at a row that no core takes (refusal 6).
 use Prim.Native.Nat.{ℕ}
-use mathlib.Core.List.{List, [], _∷_}
+use mathlib.Core.List.{List, _∷_}
 use lib.ListN.{length, set, replicate}
 use Rattle.placement.specs.Core.{Table}
 use Rattle.placement.specs.Order.{taken}

@@ -15,7 +15,7 @@ use Rattle.theory.specs.Row.{Row, rowAt}
 use Rattle.theory.specs.Response.{load, AllMeet}
 use Rattle.theory.specs.Allowance.{longer, raised, IsAllowance}
 use Rattle.theory.specs.Points.{points, slack, HasPoint, times, touches, IsPointAllowance, bound, pointAllowance, allowance}
-use Rattle.theory.proofs.Gather.{T-true, T-false}
+use Rattle.theory.proofs.Each.{T-true, T-false}
 use Rattle.theory.proofs.Signed.{≤ℤ-trans, slack-left, le-pos}
 use Rattle.theory.proofs.Verdict.{Steady, AllSteady, on-time-by-points}
 use Rattle.theory.proofs.Raise.{raised-row, points-stay, load-of-touched, load-of-untouched}

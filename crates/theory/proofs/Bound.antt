@@ -16,7 +16,8 @@ use Rattle.theory.specs.Rank.{places, rival, levels}
 use Rattle.theory.specs.Response.{ceil, load}
 use Rattle.theory.specs.Points.{points, slack, times, quotient, greatestOf, smallestOf, touches, IsBound, IsPointAllowance, bound, pointAllowance}
 use Rattle.theory.proofs.Tests.{or-first}
-use Rattle.theory.proofs.Gather.{all-at, keep-passes, all-keep, all-upFrom, all-map, mem-keep, mem-upFrom}
+use Rattle.theory.proofs.Each.{keep-passes, all-keep, all-upFrom, all-map}
+use Rattle.theory.proofs.Member.{all-at, mem-keep, mem-upFrom}
 use Rattle.theory.proofs.Ceil.{ceil-positive}
 use Rattle.theory.proofs.Walk.{walk-start, walk-positive}
 use Rattle.theory.proofs.Signed.{≤ℤ-trans, ≤ℤ-antisymm, leZ-fails, leZ-passes, quotient-covers}

@@ -14,7 +14,8 @@ use Rattle.theory.specs.Rank.{places}
 use Rattle.theory.specs.Response.{Meets, AllMeet, Outcome, responds, misses, IsOutcome, inTime, outcome, onTime}
 use Rattle.theory.specs.Allowance.{IsCoreAllowance}
 use Rattle.theory.specs.Points.{pointAllowance, smallestOf, coreAllowance, IsPointAllowance}
-use Rattle.theory.proofs.Gather.{all-at, all-from, all-every, every-all, all-upFrom, mem-upFrom}
+use Rattle.theory.proofs.Each.{all-every, every-all, all-upFrom}
+use Rattle.theory.proofs.Member.{all-at, all-from, mem-upFrom}
 use Rattle.theory.proofs.Signed.{le-pos}
 use Rattle.theory.proofs.Response.{outcome-right}
 use Rattle.theory.proofs.Verdict.{AllSteady}

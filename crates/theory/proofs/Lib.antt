@@ -1,6 +1,9 @@
 -- The theory of one core.
 pub mod Tests
-pub mod Gather
+pub mod Each
+pub mod Member
+pub mod Sum
+pub mod Order
 pub mod Limits
 pub mod Ceil
 pub mod Demand

@@ -16,7 +16,9 @@ use Rattle.theory.specs.Rank.{places, above, rival, rivals, levels}
 use Rattle.theory.specs.Response.{ceil, own, demand, load}
 use Rattle.theory.specs.Allowance.{longer, raised}
 use Rattle.theory.specs.Points.{lastMultiple, walk, points, times, touches}
-use Rattle.theory.proofs.Gather.{All, Ordered, all-map, all-at, true-of, T-true, T-false, upFrom-ascending, ordered-keep, ordered-map}
+use Rattle.theory.proofs.Each.{All, all-map, true-of, T-true, T-false}
+use Rattle.theory.proofs.Member.{all-at}
+use Rattle.theory.proofs.Order.{Ordered, upFrom-ascending, ordered-keep, ordered-map}
 use Rattle.theory.proofs.Demand.{ask}
 use Rattle.theory.proofs.Tests.{or-cases, or-first, or-second}
 use Rattle.theory.proofs.Rank.{rival-irreflexive, mem-rivals, all-rivals}

@@ -14,7 +14,10 @@ use Rattle.theory.specs.Row.{Row, rowAt}
 use Rattle.theory.specs.Gather.{sum, keep, sort}
 use Rattle.theory.specs.Rank.{places, above, rival, rivals, levels}
 use Rattle.theory.specs.Response.{ceil, demand, load, own}
-use Rattle.theory.proofs.Gather.{All, Ordered, where-passes, where-passes-true, where-passes-false, T-true, all-map, all-both, all-at, mem-keep, mem-upFrom, all-keep, keep-passes, all-upFrom, mem-of-sort, mem-of-keep, true-of, sum-append, sum-sort, sum-keep-le, mem-getD, sum-keep, sum-le, sum-eq, upFrom-ascending, ordered-keep, ordered-append-split, sort-ordered}
+use Rattle.theory.proofs.Each.{All, T-true, all-map, all-both, all-keep, keep-passes, all-upFrom, true-of}
+use Rattle.theory.proofs.Member.{all-at, mem-keep, mem-upFrom, mem-of-sort, mem-of-keep, mem-getD}
+use Rattle.theory.proofs.Sum.{where-passes, where-passes-true, where-passes-false, sum-append, sum-sort, sum-keep-le, sum-keep, sum-le, sum-eq}
+use Rattle.theory.proofs.Order.{Ordered, upFrom-ascending, ordered-keep, ordered-append-split, sort-ordered}
 use Rattle.theory.proofs.Tests.{LessOrTied, less, tied, less-or-tied, passes-less-or-tied, tied-irreflexive, tied-connected, tied-transitive}
 use Rattle.theory.proofs.Demand.{ask, levelDemand, demand-of-first, row-of-place}
 

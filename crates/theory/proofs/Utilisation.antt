@@ -16,7 +16,10 @@ use Rattle.theory.specs.Response.{ceil, demand, load, own, Meets, AllMee
 use Rattle.theory.specs.Utilisation.{work, AtMostOne}
 use Rattle.theory.proofs.Ceil.{le-ceil, ceil-one}
 use Rattle.theory.proofs.Demand.{ask}
-use Rattle.theory.proofs.Gather.{All, all-from, all-at, all-upFrom, mem-upFrom, T-true, T-false, true-of, where-passes, where-passes-true, where-passes-false, sum-keep, sum-eq, sum-le, upFrom-ascending}
+use Rattle.theory.proofs.Each.{All, all-upFrom, T-true, T-false, true-of}
+use Rattle.theory.proofs.Member.{all-from, all-at, mem-upFrom}
+use Rattle.theory.proofs.Sum.{where-passes, where-passes-true, where-passes-false, sum-keep, sum-eq, sum-le}
+use Rattle.theory.proofs.Order.{upFrom-ascending}
 use Rattle.theory.proofs.Raise.{only, only-there, only-elsewhere, sum-with}
 use Rattle.theory.proofs.Rank.{above-transitive, above-connected, above-rival, rival-irreflexive}
 use Rattle.theory.proofs.Verdict.{AllSteady}

@@ -1,0 +1,12 @@
+-- Laws of document 01, "Placement".
+pub mod Apart
+pub mod Compared
+pub mod Fit
+pub mod Order
+pub mod Core
+pub mod Moment
+pub mod Certified
+pub mod Determined
+pub mod Preferred
+pub mod Step
+pub mod Computed
