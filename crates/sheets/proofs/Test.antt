@@ -1,17 +1,24 @@
--- One test that computes for every kind of sheet.
-use Prim.Native.Nat.{ℕ, zero, suc, _%_}
+-- One test that computes, for every kind of sheet.
+use Prim.Native.Nat.{ℕ, suc, _%_}
 use mathlib.Core.Bool.{Bool, true, false, _&&_, _||_, not}
 use mathlib.Core.List.{List, [], _∷_, map}
 use lib.Dec.{leb, ltb, eqb}
 use lib.IntN.{ℤ}
 use lib.ListN.{length}
 use lib.Signed.{leZ}
+use Rattle.theory.specs.declared.Answer.the-variants.{NoCoreTakes}
 use Rattle.theory.specs.Row.{Row, rowAt, withinLimits}
 use Rattle.theory.specs.Gather.{every}
 use Rattle.theory.specs.Rank.{places, above}
-use Rattle.theory.specs.Response.{Outcome, responds, misses, inTime, outcome, onTime}
+use Rattle.theory.specs.Response.{inTime, outcome, onTime}
 use Rattle.theory.specs.Points.{points, slack, quotient, bound, allowance}
 use Rattle.theory.specs.Utilisation.{work}
+use Rattle.placement.specs.Core.{Table}
+use Rattle.placement.specs.Order.{taken}
+use Rattle.placement.specs.Choice.{allowanceFit}
+use Rattle.placement.specs.Figures.{Certificate, certified, noCoreTakes}
+use Rattle.placement.specs.Placing.{responseOf, certificate}
+use Rattle.listing.specs.Listing.{listing, refusal}
 use Rattle.sheets.specs.Sheets.{Sheet, set-accepted, set-misses, below-one, walk-yields, points-as-set, bound-on, slack-at, quotient-at, order-taken, listed, no-core-takes}
 
 -- whether two lists are the same
@@ -21,15 +28,50 @@ sameList [] (y ∷ ys) = false
 sameList (x ∷ xs) [] = false
 sameList (x ∷ xs) (y ∷ ys) = eqb x y && sameList xs ys
 
+-- whether two signed numbers are the same
+abbrev pub sameSigned : ℤ → ℤ → Bool
+sameSigned y z = leZ y z && leZ z y
+
 -- whether a number is one of a list
 unfoldable pub oneOf : List ℕ → ℕ → Bool
 oneOf [] n = false
 oneOf (x ∷ xs) n = eqb n x || oneOf xs n
 
--- whether two signed numbers are the same
-abbrev pub sameSigned : ℤ → ℤ → Bool
-sameSigned y z = leZ y z && leZ z y
-
 -- whether rows are as many as a set may have, each within the limits
 unfoldable pub isSet : List Row → Bool
-isSet rows = leb 1 (length rows) && leb (length rows) 24 && every (λ k. withinLimits (rowAt rows k)) (places rows)
+isSet rows = (leb 1 (length rows) && leb (length rows) 24) && every (λ k. withinLimits (rowAt rows k)) (places rows)
+
+-- whether a table keeps the rules
+unfoldable pub isTable : Table → Bool
+isTable table = (leb 1 (table .cores) && leb (table .cores) 8) && isSet (table .rows)
+
+-- the listing's text for a certificate
+abbrev pub textOf : Certificate → List ℕ
+textOf (certified all) = listing all
+textOf (noCoreTakes i) = refusal (NoCoreTakes (suc i))
+
+-- whether a certificate stops at a row
+abbrev pub stopsAt : Certificate → ℕ → Bool
+stopsAt (certified all) k = false
+stopsAt (noCoreTakes i) k = eqb i k
+
+-- THE TEST of a sheet
+unfoldable pub passes : Sheet → Bool
+passes (set-accepted rows responses allowances) =
+    isSet rows && (onTime rows && (sameList (map (λ k. responseOf (outcome rows k)) (places rows)) responses && sameList (map (allowance rows) (places rows)) allowances))
+passes (set-misses rows k) =
+    isSet rows && (ltb k (length rows) && (not (inTime (outcome rows k)) && every (λ h. not (above rows h k) || inTime (outcome rows h)) (places rows)))
+passes (below-one rows P) = every (λ k. eqb (P % rowAt rows k .T) 0) (places rows) && ltb (work rows P) P
+passes (walk-yields rows k times) = sameList (points rows k) times
+passes (points-as-set rows k times) = every (oneOf times) (points rows k) && every (oneOf (points rows k)) times
+passes (bound-on rows k i b) = sameSigned (bound rows k i) b
+passes (slack-at rows k t z) = sameSigned (slack rows k t) z
+passes (quotient-at rows k i t z) = sameSigned (quotient rows k i t) z
+passes (order-taken rows order) = sameList (taken rows) order
+passes (listed table text) = isTable table && sameList (textOf (certificate allowanceFit table)) text
+passes (no-core-takes table k) = isTable table && stopsAt (certificate allowanceFit table) k
+
+-- whether every sheet of a list passes
+unfoldable pub allPass : List Sheet → Bool
+allPass [] = true
+allPass (sheet ∷ others) = passes sheet && allPass others

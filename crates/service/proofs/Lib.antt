@@ -1,0 +1,2 @@
+-- Laws of the table service's promise.
+pub mod Table
