@@ -1,5 +1,5 @@
 -- The table service's promise determines the answer and every byte of the report; the bench program's determines what it prints.
-use mathlib.Core.Path.{_≡_, refl, sym, ap, subst, _∙_}
+use mathlib.Core.Path.{_≡_, refl, ap, subst, _∙_}
 use Prim.Native.Nat.{ℕ, suc, _≤_, _<_}
 use mathlib.Core.List.{List}
 use native.Mathlib.Omega.{arith}
@@ -12,7 +12,7 @@ use Rattle.placement.specs.Choice.{Rule, IsRule}
 use Rattle.placement.specs.Placement.{Stopped}
 use Rattle.placement.specs.Figures.{Figures, Certificate, certified, noCoreTakes, Certified, IsCertificate}
 use Rattle.placement.proofs.Determined.{certificate-unique}
-use Rattle.records.specs.Reading.{Reading, readTable, table, refused}
+use Rattle.records.specs.Reading.{readTable, table, refused}
 use Rattle.records.specs.Report.{reportBytes, reportLength}
 use Rattle.listing.specs.Listing.{listing, refusal}
 use Rattle.service.specs.Table.{TableAnswered, Listed}

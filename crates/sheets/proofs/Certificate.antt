@@ -1,13 +1,11 @@
 -- What the sheets on whole tables say, from the computed certificate.
-use mathlib.Core.Path.{_≡_, ap, subst}
+use mathlib.Core.Path.{_≡_, subst}
 use Prim.Native.Nat.{ℕ, suc, _≤_}
 use mathlib.Core.Bool.{_&&_}
 use mathlib.Core.List.{List}
-use lib.Dec.{T, leb, eqb, leb→le, eqb→eq}
+use lib.Dec.{T, leb, leb→le, eqb→eq}
 use lib.ListN.{length}
 use Rattle.theory.specs.declared.Answer.the-variants.{NoCoreTakes}
-use Rattle.theory.specs.Row.{Row}
-use Rattle.theory.specs.Rank.{places}
 use Rattle.theory.proofs.Tests.{and-first, and-second}
 use Rattle.placement.specs.Core.{Table}
 use Rattle.placement.specs.Choice.{allowanceFit}

@@ -1,8 +1,6 @@
 -- A set's rows are the rows that its three lists are.
 use mathlib.Core.Path.{_≡_, refl, ap}
-use Prim.Native.Nat.{ℕ}
-use mathlib.Core.List.{List, [], _∷_, map}
-use lib.ListN.{length, length-map}
+use mathlib.Core.List.{List, [], _∷_}
 use Rattle.theory.specs.Row.{Row}
 use Rattle.theory.specs.Lists.{rowsOf}
 use Rattle.sheets.specs.Sheets.{executions, deadlines, periods}

@@ -1,43 +1,39 @@
 -- The law that turns the test of a sheet into what the sheet says.
 use mathlib.Core.Path.{_≡_, refl, sym, ap, _∙_, subst}
-use Prim.Native.Nat.{ℕ, zero, suc, _+_, _%_, _≤_, _<_, zero-le}
-use mathlib.Core.Bool.{Bool, true, false, _&&_, _||_, not}
-use mathlib.Core.Logic.{_↔_, _⊎_, inl, inr, ⊎-elim}
+use Prim.Native.Nat.{ℕ, suc, _≤_, _<_, zero-le}
+use mathlib.Core.Bool.{Bool, _&&_, _||_, not}
+use mathlib.Core.Logic.{_⊎_, inl, inr, ⊎-elim}
 use mathlib.Core.List.{List, [], _∷_, map, List·Memᴰ, List·Memᴰ·head, List·Memᴰ·tail}
 use native.Mathlib.Omega.{arith}
 use native.Mathlib.Nat.{zero-add}
-use lib.Dec.{T, leb, ltb, eqb, leb→le, ltb→lt, eqb→eq, T-not}
-use lib.IntN.{ℤ, pos}
-use lib.ListN.{length, getD, length-map}
-use lib.Signed.{_≤ℤ_, leZ}
+use lib.Dec.{T, leb, eqb, leb→le, eqb→eq, T-not}
+use lib.IntN.{ℤ}
+use lib.ListN.{length, length-map}
+use lib.Signed.{leZ}
 use Rattle.theory.specs.declared.Answer.{Answer}
-use Rattle.theory.specs.declared.Answer.the-variants.{Accepted, RowMisses, NoCoreTakes}
-use Rattle.theory.specs.Row.{Row, rowAt, withinLimits, WithinLimits, AllWithin}
+use Rattle.theory.specs.declared.Answer.the-variants.{Accepted, RowMisses}
+use Rattle.theory.specs.Row.{Row, rowAt, withinLimits, AllWithin}
 use Rattle.theory.specs.Gather.{every}
 use Rattle.theory.specs.Rank.{places, above}
 use Rattle.theory.specs.Response.{Outcome, responds, misses, IsOutcome, IsResponse, Meets, AllMeet, FirstMiss, inTime, outcome, onTime}
 use Rattle.theory.specs.Allowance.{IsAllowance}
-use Rattle.theory.specs.Points.{points, slack, quotient, bound, allowance, IsBound}
-use Rattle.theory.specs.Utilisation.{CommonMultiple, work}
-use Rattle.theory.specs.Lists.{Shaped, ForEach, filled, rowsOf, SetAnswered, PointAnswered, accepted, row-misses}
+use Rattle.theory.specs.Points.{allowance}
+use Rattle.theory.specs.Lists.{Shaped, ForEach, filled, rowsOf, SetAnswered, accepted, row-misses}
 use Rattle.theory.proofs.Tests.{and-first, and-second, or-cases}
-use Rattle.theory.proofs.Each.{true-of, T-true, every-all}
+use Rattle.theory.proofs.Each.{true-of, every-all}
 use Rattle.theory.proofs.Member.{all-at, mem-upFrom, at-map-upFrom, length-upFrom}
 use Rattle.theory.proofs.Limits.{passing-keeps-limits}
 use Rattle.theory.proofs.Response.{outcome-right}
 use Rattle.theory.proofs.Verdict.{within-steady}
 use Rattle.theory.proofs.Signed.{≤ℤ-antisymm}
-use Rattle.theory.proofs.Bound.{bound-is}
 use Rattle.theory.proofs.Allowance.{allowance-is}
 use Rattle.theory.proofs.CoreAllowance.{on-time-meets}
 use Rattle.theory.proofs.Lists.{services-agree}
-use Rattle.placement.specs.Core.{Table}
-use Rattle.placement.specs.Choice.{allowanceFit}
-use Rattle.placement.specs.Placing.{responseOf, certificate}
+use Rattle.placement.specs.Placing.{responseOf}
 use Rattle.placement.proofs.Computed.{response-of-is}
-use Rattle.sheets.specs.Sheets.{Sheet, executions, deadlines, periods, BothAnswer, Holds}
+use Rattle.sheets.specs.Sheets.{executions, deadlines, periods, BothAnswer}
 use Rattle.sheets.proofs.Columns.{rows-of-columns}
-use Rattle.sheets.proofs.Test.{sameList, sameSigned, oneOf, isSet, isTable, passes}
+use Rattle.sheets.proofs.Test.{sameList, sameSigned, oneOf, isSet}
 
 -- ---- the parts of the tests
 

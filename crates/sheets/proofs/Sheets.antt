@@ -1,12 +1,12 @@
 -- THE SHEETS HOLD: one computed test over the whole list, and one law that turns the test into what each sheet says.
 use mathlib.Core.Path.{_≡_, subst, sym}
-use Prim.Native.Nat.{ℕ, _%_, _<_}
-use mathlib.Core.Bool.{Bool, true, false, _&&_, _||_, not}
+use Prim.Native.Nat.{_%_}
+use mathlib.Core.Bool.{_&&_, _||_, not}
 use mathlib.Core.Logic.{_⊎_, inl, inr}
 use mathlib.Core.List.{List, [], _∷_, map, List·Memᴰ, List·Memᴰ·cases-cons}
 use lib.Dec.{T, ltb, eqb, ltb→lt, eqb→eq}
 use lib.ListN.{length}
-use Rattle.theory.specs.Row.{Row, rowAt}
+use Rattle.theory.specs.Row.{rowAt}
 use Rattle.theory.specs.Gather.{upFrom, keep, sum, every, insert, sort, best}
 use Rattle.theory.specs.Rank.{places, above, rivals, levels}
 use Rattle.theory.specs.Response.{ceil, demand, load, climb, inTime, outcome, onTime}
@@ -16,13 +16,13 @@ use Rattle.theory.proofs.Tests.{and-first, and-second}
 use Rattle.theory.proofs.Each.{every-all}
 use Rattle.theory.proofs.Member.{all-at}
 use Rattle.theory.proofs.Bound.{bound-is}
-use Rattle.placement.specs.Core.{Table, coreRows, placeOnCore}
+use Rattle.placement.specs.Core.{coreRows, placeOnCore}
 use Rattle.placement.specs.Order.{taken}
 use Rattle.placement.specs.Choice.{allowanceFit}
 use Rattle.placement.specs.Placing.{takes, candidateAt, takers, preferred, chosenOf, stepOf, run, figuresOf, certificateOf, certificate, responseOf}
 use Rattle.listing.specs.Listing.{ascii, headerLine, digitsBefore, decimal, rowLine, rowLines, smallestAllowance, systemAllowance, listing, refusal}
 use Rattle.sheets.specs.Sheets.{Sheet, set-accepted, set-misses, below-one, walk-yields, points-as-set, bound-on, slack-at, quotient-at, order-taken, listed, no-core-takes, Holds, sheets}
-use Rattle.sheets.proofs.Test.{sameList, sameSigned, oneOf, isSet, isTable, textOf, stopsAt, passes, allPass}
+use Rattle.sheets.proofs.Test.{sameList, oneOf, isSet, isTable, textOf, stopsAt, passes, allPass}
 use Rattle.sheets.proofs.Law.{same-list, same-signed, one-of, each-place, accepted-holds, misses-holds}
 use Rattle.sheets.proofs.Certificate.{listed-holds, no-core-takes-holds}
 
