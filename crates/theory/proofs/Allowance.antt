@@ -26,7 +26,7 @@ pub allowance-unique : (rows : List Row) (i a b : ℕ) → IsAllowance rows i a 
 allowance-unique rows i a b p q = le-antisymm (q .largest a (p .all-meet)) (p .largest b (q .all-meet))
 
 module _ (rows : List Row) (steady : AllSteady rows) (i : ℕ) (inside : i < length rows) where
-  raised-steady : (a : ℕ) → AllSteady (raised rows i a)
+  pub raised-steady : (a : ℕ) → AllSteady (raised rows i a)
   raised-steady a h l =
       let s : Steady (rowAt rows h) = steady h (subst (λ (n : ℕ). h < n) (length-set rows i (longer (rowAt rows i) a)) l) in
       subst Steady (sym (raised-row rows i a inside h))

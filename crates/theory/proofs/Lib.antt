@@ -16,6 +16,7 @@ pub mod Verdict
 pub mod Raise
 pub mod Bound
 pub mod Allowance
+pub mod Trial
 pub mod CoreAllowance
 pub mod Utilisation
 pub mod DemandThree

@@ -1,0 +1,130 @@
+-- The laws on which a search by trial stands: a row that meets with b more in row i meets with less, its response time without the raise is a start for
+-- the climb with it, and row i's own distance to its deadline bounds every raise.
+use mathlib.Core.Path.{_≡_, refl, ap, subst}
+use Prim.Native.Nat.{ℕ, _+_, _-_, _*_, _≤_, _<_}
+use mathlib.Core.Bool.{Bool, true, false}
+use mathlib.Core.List.{List}
+use native.Mathlib.Omega.{arith}
+use native.Mathlib.Nat.{le-refl, le-trans, mul-le-mul-right, mul-one}
+use borrow.Author.Tests.{eq-eqb}
+use lib.Dec.{T, eqb, eqb-refl}
+use lib.ListN.{length, length-set}
+use Rattle.theory.specs.Row.{Row, rowAt}
+use Rattle.theory.specs.Rank.{rivals, rival}
+use Rattle.theory.specs.Response.{demand, load, own, Outcome, responds, misses, climb, IsResponse, Meets, AllMeet}
+use Rattle.theory.specs.Allowance.{longer, raised, IsAllowance}
+use Rattle.theory.specs.Points.{times, touches}
+use Rattle.theory.proofs.Climb.{RoomAt, LeastRoom, Start, Climbed}
+use Rattle.theory.proofs.Demand.{demand-mono, load-mono}
+use Rattle.theory.proofs.Response.{Room, meets-room, room-meets, climb-from-one}
+use Rattle.theory.proofs.Raise.{raised-row, load-of-touched, load-of-untouched}
+use Rattle.theory.proofs.Tests.{or-first}
+use Rattle.theory.proofs.Each.{T-true, T-false}
+use Rattle.theory.proofs.Verdict.{AllSteady}
+use Rattle.theory.proofs.Allowance.{raised-steady}
+
+-- a response time is at most every time with room
+pub response-below-room : (rows : List Row) (k R S : ℕ) → 1 ≤ rowAt rows k .C → IsResponse rows k R → RoomAt (load rows k) S → R ≤ S
+response-below-room rows k R S runs is-R room = go (climb (load rows k) S S 1) (climb-from-one rows k runs S)
+  where
+    go : (o : Outcome) → Climbed (load rows k) S o → R ≤ S
+    go (responds Q) c = omega (arith, is-R .least Q (c .0 .room .from-one) (c .0 .repeats), c .1)
+    go misses c = absurd (let late : S < S = c S room in omega arith)
+
+module _ (rows : List Row) (i : ℕ) (inside : i < length rows) where
+  -- raising row i by more loads no row less
+  pub raise-mono : (a b k t : ℕ) → a ≤ b → load (raised rows i a) k t ≤ load (raised rows i b) k t
+  raise-mono a b k t h = go (touches rows i k) refl
+    where
+      go : (c : Bool) → touches rows i k ≡ c → load (raised rows i a) k t ≤ load (raised rows i b) k t
+      go true e =
+          let touched : T (touches rows i k) = T-true (touches rows i k) e in
+          omega
+          (arith,
+          load-of-touched rows i a inside k t touched,
+          load-of-touched rows i b inside k t touched,
+          mul-le-mul-right (times rows k i t) h)
+      go false e =
+          omega
+          (arith,
+          load-of-untouched rows i a inside k t (T-false (touches rows i k) e),
+          load-of-untouched rows i b inside k t (T-false (touches rows i k) e))
+
+  -- nor does raising it at all
+  pub raise-loads : (a k t : ℕ) → load rows k t ≤ load (raised rows i a) k t
+  raise-loads a k t = go (touches rows i k) refl
+    where
+      go : (c : Bool) → touches rows i k ≡ c → load rows k t ≤ load (raised rows i a) k t
+      go true e = omega (arith, load-of-touched rows i a inside k t (T-true (touches rows i k) e))
+      go false e = omega (arith, load-of-untouched rows i a inside k t (T-false (touches rows i k) e))
+
+  -- a row that meets with b more in row i meets with less
+  pub meets-with-less : (a b k : ℕ) → 1 ≤ rowAt (raised rows i a) k .C → a ≤ b → Meets (raised rows i b) k → Meets (raised rows i a) k
+  meets-with-less a b k runs h m =
+      let r : Room (raised rows i b) k (rowAt (raised rows i b) k .D) = meets-room (raised rows i b) k m in
+      room-meets (raised rows i a) k runs
+      (record {
+        time = r .time;
+        room = record { from-one = r .room .from-one; enough = le-trans (raise-mono a b k (r .time) h) (r .room .enough) };
+        within = omega (arith, r .within, same-deadline a k, same-deadline b k)
+      })
+    where
+      same-deadline : (a k : ℕ) → rowAt (raised rows i a) k .D ≡ rowAt rows k .D
+      same-deadline a k = ap (λ (r : Row). r .D) (raised-row rows i a inside k)
+
+  module _ (k R : ℕ) (runs : 1 ≤ rowAt rows k .C) (is-R : IsResponse rows k R) where
+    -- the response time without the raise is a start for the climb with it
+    pub response-starts : (a : ℕ) → Start (load (raised rows i a) k) R
+    response-starts a = record {
+      from-one = is-R .at-least-one;
+      rises = omega (arith, is-R .solves, raise-loads a k R);
+      below-room = λ S room. response-below-room rows k R S runs is-R (record { from-one = room .from-one; enough = le-trans (raise-loads a k S) (room .enough) })
+    }
+
+  -- its own raise counts once in row i's load
+  raised-own : (b t : ℕ) → load (raised rows i b) i t ≡ load rows i t + b
+  unfolding times
+  raised-own b t =
+      let once : times rows i i t ≡ 1 = rw (eq-eqb i i refl, times) in
+      omega
+      (arith,
+      load-of-touched rows i b inside i t (or-first (eqb i i) (rival rows i i) (eqb-refl i)),
+      ap (λ (n : ℕ). b * n) once,
+      mul-one b)
+
+  -- no raise of row i with which it meets takes its response time past its deadline
+  pub raise-bounded : (b R : ℕ) → 1 ≤ rowAt rows i .C → IsResponse rows i R → Meets (raised rows i b) i → R + b ≤ rowAt rows i .D
+  unfolding load
+  raise-bounded b R runs is-R m =
+      let Q = m .response in
+      let total : load rows i Q + b ≡ Q = omega (arith, m .is-response .solves, raised-own b Q) in
+      let S = load rows i Q in
+      let fits : load rows i S ≤ S = load-mono rows i (omega arith) in
+      omega
+      (arith,
+      response-below-room rows i R S runs is-R (record { from-one = omega arith; enough = fits }),
+      m .by-deadline,
+      ap (λ (r : Row). r .D) (raised-row rows i b inside i))
+
+  -- what a search by trial finds is the allowance: each row that the raise touches meets with it, and no larger one leaves all rows meeting
+  pub trial-allowance : (a : ℕ) → AllSteady rows → AllMeet rows
+    → ((k : ℕ) → k < length rows → T (touches rows i k) → Meets (raised rows i a) k)
+    → ((b : ℕ) → AllMeet (raised rows i b) → b ≤ a)
+    → IsAllowance rows i a
+  trial-allowance a steady all touched-meet no-larger = record { all-meet = meet; largest = no-larger }
+    where
+      meet : AllMeet (raised rows i a)
+      meet k h = go (touches rows i k) refl
+        where
+          in-set : k < length rows
+          in-set = subst (λ (n : ℕ). k < n) (length-set rows i (longer (rowAt rows i) a)) h
+          go : (b : Bool) → touches rows i k ≡ b → Meets (raised rows i a) k
+          go true e = touched-meet k in-set (T-true (touches rows i k) e)
+          go false e =
+              let r : Room rows k (rowAt rows k .D) = meets-room rows k (all k in-set) in
+              room-meets (raised rows i a) k (raised-steady rows steady i inside a k h .runs)
+              (record {
+                time = r .time;
+                room = record { from-one = r .room .from-one; enough = omega (arith, r .room .enough, load-of-untouched rows i a inside k (r .time) (T-false (touches rows i k) e)) };
+                within = omega (arith, r .within, ap (λ (r : Row). r .D) (raised-row rows i a inside k))
+              })
