@@ -6,13 +6,13 @@ use mathlib.Core.Logic.{_⊎_, inl, inr, _↔_}
 use mathlib.Core.List.{List, [], _∷_}
 use lib.Dec.{T}
 use lib.ListN.{length, set}
+use Rattle.theory.proofs.Tests.{order-cases}
 use Rattle.theory.proofs.Each.{All}
 use Rattle.placement.specs.Core.{Table}
 use Rattle.placement.specs.Order.{taken}
 use Rattle.placement.specs.Choice.{Rule, IsRule, IsChosen, NoCandidate}
 use Rattle.placement.specs.Placement.{Moment, start, step, Stopped}
 use Rattle.placement.specs.Figures.{Figures, AreFigures, Certified, Certificate, certified, noCoreTakes, IsCertificate}
-use Rattle.placement.proofs.Compared.{order-cases}
 use Rattle.placement.proofs.Core.{same-core}
 use Rattle.placement.proofs.Moment.{underway}
 use Rattle.placement.proofs.Certified.{all-figures-unique}

@@ -18,21 +18,19 @@ use Rattle.theory.proofs.Each.{All, T-true, all-map, all-both, all-keep
 use Rattle.theory.proofs.Member.{all-at, mem-keep, mem-upFrom, mem-of-sort, mem-of-keep, mem-getD}
 use Rattle.theory.proofs.Sum.{where-passes, where-passes-true, where-passes-false, sum-append, sum-sort, sum-keep-le, sum-keep, sum-le, sum-eq}
 use Rattle.theory.proofs.Order.{Ordered, upFrom-ascending, ordered-keep, ordered-append-split, sort-ordered}
-use Rattle.theory.proofs.Tests.{LessOrTied, less, tied, less-or-tied, passes-less-or-tied, tied-irreflexive, tied-connected, tied-transitive}
+use Rattle.theory.proofs.Tests.{less-or-tied, passes-less-or-tied, tied-asymmetric, tied-connected, tied-chain}
 use Rattle.theory.proofs.Demand.{ask, levelDemand, demand-of-first, row-of-place}
 
 module _ (rows : List Row) where
   -- rank in words: the smaller D ranks higher; of equal D, the earlier row
   pub above-exactly : (h k : ℕ) → T (above rows h k) ↔ ((rowAt rows h .D < rowAt rows k .D) ⊎ ((rowAt rows h .D ≡ rowAt rows k .D) × (h < k)))
-  above-exactly h k = (λ t. by-cases (less-or-tied _ _ h k t), ⊎-elim (λ l. passes-less-or-tied _ _ h k (less l)) (λ s. passes-less-or-tied _ _ h k (tied (s .0) (s .1))))
-    where
-      by-cases : LessOrTied (rowAt rows h .D) (rowAt rows k .D) h k → (rowAt rows h .D < rowAt rows k .D) ⊎ ((rowAt rows h .D ≡ rowAt rows k .D) × (h < k))
-      by-cases (less l) = inl l
-      by-cases (tied e l) = inr (e, l)
+  above-exactly h k = (less-or-tied (rowAt rows h .D) (rowAt rows k .D) h k, passes-less-or-tied (rowAt rows h .D) (rowAt rows k .D) h k)
 
+  -- a row above a row that ranks above z ranks above z
   pub above-transitive : (x y z : ℕ) → T (above rows x y) → T (above rows y z) → T (above rows x z)
-  above-transitive x y z = tied-transitive (rowAt rows x .D) (rowAt rows y .D) (rowAt rows z .D) x y z
+  above-transitive x y z s t = above-exactly x z .1 (tied-chain (above-exactly x y .0 s) (above-exactly y z .0 t) (omega arith) (omega arith) (omega arith))
 
+  -- of two different rows one ranks above the other
   pub above-connected : (x y : ℕ) → (x ≡ y → ⊥) → T (above rows x y) ⊎ T (above rows y x)
   above-connected x y = tied-connected (rowAt rows x .D) (rowAt rows y .D) x y
 
@@ -42,7 +40,7 @@ module _ (rows : List Row) where
 
   -- no row is its own rival
   pub rival-irreflexive : (x : ℕ) → T (rival rows x x) → ⊥
-  rival-irreflexive x = tied-irreflexive (rowAt rows x .D) x
+  rival-irreflexive x t = tied-asymmetric (rowAt rows x .D) (rowAt rows x .D) x x t t
 
   -- a rival of a row ranked above k is a rival of k
   pub rival-above : (x h k : ℕ) → T (rival rows x h) → T (above rows h k) → T (rival rows x k)
