@@ -10,8 +10,9 @@ use lib.ListN.{length}
 use Rattle.theory.specs.Row.{Row, rowAt, AllWithin}
 use Rattle.theory.specs.Rank.{places}
 use Rattle.theory.proofs.Tests.{less-or-tied, passes-less-or-tied, tied-connected, tied-chain}
-use Rattle.theory.proofs.Each.{All, all-map, all-sort, all-upFrom}
-use Rattle.theory.proofs.Member.{mem-sort, mem-upFrom}
+use Rattle.theory.proofs.Each.{All, all-sort}
+use Rattle.theory.proofs.Member.{mem-sort}
+use Rattle.theory.proofs.Places.{places-inside, mem-places}
 use Rattle.theory.proofs.Order.{Ordered, ordered-map, upFrom-ascending, sort-ordered-among, sort-symmetric}
 use Rattle.placement.specs.Order.{cross, takenBefore, taken}
 
@@ -54,19 +55,15 @@ pub taken-before-transitive :
 taken-before-transitive rows i j k pi pj pk s t =
     tied-chain s t (utilisation-lt (rowAt rows i) (rowAt rows j) (rowAt rows k) pk) (utilisation-lt-second (rowAt rows i) (rowAt rows j) (rowAt rows k) pi) (utilisation-eq (rowAt rows i) (rowAt rows j) (rowAt rows k) pj)
 
--- the places of a table are below its length
-pub places-in : (rows : List Row) → All (λ i. i < length rows) (places rows)
-places-in rows = all-map (places rows) (λ i h. omega arith) (all-upFrom 0 (length rows))
-
 -- what is taken are the places of the table
 pub taken-places : (rows : List Row) → All (λ i. i < length rows) (taken rows)
 unfolding taken
-taken-places rows = all-sort (λ i. i < length rows) (takenBefore rows) (places rows) (places-in rows)
+taken-places rows = all-sort (λ i. i < length rows) (takenBefore rows) (places rows) (places-inside rows)
 
 -- every place is taken
 pub taken-every : (rows : List Row) (i : ℕ) → i < length rows → List·Memᴰ i (taken rows)
 unfolding taken
-taken-every rows i h = mem-sort (takenBefore rows) (mem-upFrom 0 (length rows) i (omega arith) (omega arith))
+taken-every rows i h = mem-sort (takenBefore rows) (mem-places rows i h)
 
 -- no place is taken twice
 pub taken-once : (rows : List Row) → Ordered (λ i j. i ≡ j → ⊥) (taken rows)
@@ -83,7 +80,7 @@ taken-in-order rows within =
     (λ i j k pi pj pk h g. says-taken-before rows i k (taken-before-transitive rows i j k (has-period i pi) (has-period j pj) (has-period k pk) (taken-before-says rows i j h) (taken-before-says rows j k g)))
     (λ i j pi pj h. tied-connected (cross rows j i) (cross rows i j) i j (λ e. omega arith))
     (places rows)
-    (places-in rows)
+    (places-inside rows)
     (upFrom-ascending 0 (length rows))
   where
     has-period : (i : ℕ) → i < length rows → 0 < rowAt rows i .T

@@ -7,17 +7,17 @@ use lib.Dec.{T}
 use lib.ListN.{length, set, length-set}
 use lib.Seq.{getD-set-same}
 use Rattle.theory.specs.Row.{WithinLimits, AllWithin}
-use Rattle.theory.specs.Gather.{upFrom}
+use Rattle.theory.specs.Gather.{upFrom, best}
 use Rattle.theory.specs.Points.{coreAllowance}
-use Rattle.theory.proofs.Each.{All, all-map, all-keep, all-both, keep-passes, all-upFrom}
-use Rattle.theory.proofs.Member.{all-at, mem-keep, mem-upFrom}
+use Rattle.theory.proofs.Each.{All, all-map, all-kept, all-upFrom}
+use Rattle.theory.proofs.Member.{all-at, mem-keep, mem-upFrom, mem-map, mem-of-map}
 use Rattle.theory.proofs.Verdict.{within-steady}
 use Rattle.theory.proofs.CoreAllowance.{on-time-meets, meets-on-time, core-allowance-is, core-allowance-unique}
 use Rattle.placement.specs.Core.{Table}
 use Rattle.placement.specs.Choice.{Candidate, Rule, IsRule, joined, IsCandidate, IsChosen, NoCandidate}
-use Rattle.placement.specs.Placing.{takes, candidateAt, takers, preferred, Step, toCore, noCore, chosenOf, stepOf}
+use Rattle.placement.specs.Placing.{takes, candidateAt, takers, Step, toCore, noCore, chosenOf, stepOf}
 use Rattle.placement.proofs.Core.{core-rows-each, stands-at}
-use Rattle.placement.proofs.Preferred.{preferred-among, none-preferred}
+use Rattle.placement.proofs.Preferred.{none-preferred}
 
 -- what a computed step has to say of row i: the core to which it goes, or that none takes it
 abbrev pub IsStep : Rule → Table → List ℕ → ℕ → Step → Type 0
@@ -58,12 +58,7 @@ module _
       all-map
       (takers table assignment i)
       (λ m h. candidate-at-is m (h .0) (h .1))
-      (all-both
-      (λ m. (1 ≤ m) × (m < 1 + table .cores))
-      (λ m. T (takes table assignment i m))
-      (takers table assignment i)
-      (all-keep (λ m. (1 ≤ m) × (m < 1 + table .cores)) (takes table assignment i) (upFrom 1 (table .cores)) (all-upFrom 1 (table .cores)))
-      (keep-passes (takes table assignment i) (upFrom 1 (table .cores))))
+      (all-kept (λ m. (1 ≤ m) × (m < 1 + table .cores)) (takes table assignment i) (upFrom 1 (table .cores)) (all-upFrom 1 (table .cores)))
 
   -- a candidate's core passes the test
   pub candidate-taken : (c : Candidate) → IsCandidate table assignment i c → List·Memᴰ (c .core) (takers table assignment i)
@@ -96,10 +91,11 @@ module _
             → IsStep rule table assignment i (chosenOf rule (map at ms))
         go [] are every = λ c h. List·Memᴰ·not-nil (every c h)
         go (m ∷ ms) are every =
-            let best = preferred-among rule at m ms in
+            let chosen = none-preferred rule is-rule (at m) (map at ms) in
+            let taker = mem-of-map at (m ∷ ms) (chosen .attained) in
             record {
-              choice = preferred rule (at m) (map at ms);
+              choice = best rule (at m) (map at ms);
               its-core = refl;
-              is-candidate = subst (IsCandidate table assignment i) (best .is) (all-at (λ m. IsCandidate table assignment i (at m)) (best .member) are);
-              none-preferred = λ c h t. all-at (λ n. T (rule (at n) (preferred rule (at m) (map at ms))) → ⊥) (every c h) (none-preferred rule is-rule at m ms) (subst (λ d. T (rule d (preferred rule (at m) (map at ms)))) (sym (candidate-computed c h)) t);
+              is-candidate = subst (IsCandidate table assignment i) (taker .value) (all-at (λ m. IsCandidate table assignment i (at m)) (taker .among) are);
+              none-preferred = λ c h. chosen .over-all c (subst (λ d. List·Memᴰ d (map at (m ∷ ms))) (candidate-computed c h) (mem-map at (every c h)));
             }

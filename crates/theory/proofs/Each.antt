@@ -77,6 +77,10 @@ unfolding keep
 keep-passes test [] = tt
 keep-passes test (x ∷ xs) = keep-cases (All (λ x. T (test x))) test x xs (λ e. (T-true (test x) e, keep-passes test xs)) (λ e. keep-passes test xs)
 
+-- each: each of the kept, which passes
+pub all-kept : (P : ℕ → Type 0) (test : ℕ → Bool) (xs : List ℕ) → All P xs → All (λ x. P x × T (test x)) (keep test xs)
+all-kept P test xs h = all-both P (λ x. T (test x)) (keep test xs) (all-keep P test xs h) (keep-passes test xs)
+
 -- the one put in, and each: each of the new list
 pub all-insert : (P : ℕ → Type 0) (precedes : ℕ → ℕ → Bool) (x : ℕ) (xs : List ℕ) → P x → All P xs → All P (insert precedes x xs)
 unfolding insert

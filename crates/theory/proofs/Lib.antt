@@ -2,6 +2,8 @@
 pub mod Tests
 pub mod Each
 pub mod Member
+pub mod Best
+pub mod Places
 pub mod Sum
 pub mod Order
 pub mod Limits

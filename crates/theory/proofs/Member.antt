@@ -20,6 +20,22 @@ pub all-from : {P : ℕ → Type 0} (xs : List ℕ) → ((x : ℕ) → List·Mem
 all-from [] f = tt
 all-from (x ∷ xs) f = (f x (List·Memᴰ·head refl), all-from xs (λ y m. f y (List·Memᴰ·tail m)))
 
+-- a value of a function at a member is one of its values
+pub mem-map : {A : Type 0} (f : ℕ → A) {x : ℕ} {xs : List ℕ} → List·Memᴰ x xs → List·Memᴰ (f x) (map f xs)
+mem-map f (List·Memᴰ·head e) = List·Memᴰ·head (ap f e)
+mem-map f (List·Memᴰ·tail m) = List·Memᴰ·tail (mem-map f m)
+
+-- one of a list of values, with the number that it is the value of
+pub record ValueOf {A : Type 0} (f : ℕ → A) (xs : List ℕ) (y : A) : Type 0 where
+  pub at : ℕ
+  pub among : List·Memᴰ at xs
+  pub value : f at ≡ y
+
+-- each of a function's values is its value at a member
+pub mem-of-map : {A : Type 0} (f : ℕ → A) (xs : List ℕ) {y : A} → List·Memᴰ y (map f xs) → ValueOf f xs y
+mem-of-map f (x ∷ xs) (List·Memᴰ·head e) = record { at = x; among = List·Memᴰ·head refl; value = sym e }
+mem-of-map f (x ∷ xs) (List·Memᴰ·tail m) = let v = mem-of-map f xs m in record { at = v .at; among = List·Memᴰ·tail (v .among); value = v .value }
+
 -- a member that passes is kept
 pub mem-keep : (test : ℕ → Bool) {x : ℕ} {xs : List ℕ} → List·Memᴰ x xs → T (test x) → List·Memᴰ x (keep test xs)
 mem-keep test {x} (List·Memᴰ·head {x = y} {xs = ys} e) t = keep-cases (List·Memᴰ x) test y ys (λ p. List·Memᴰ·head e) (λ p. absurd (T-false (test y) p (subst (λ z. T (test z)) e t)))

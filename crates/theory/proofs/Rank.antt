@@ -14,8 +14,9 @@ use Rattle.theory.specs.Row.{Row, rowAt}
 use Rattle.theory.specs.Gather.{sum, keep, sort}
 use Rattle.theory.specs.Rank.{places, above, rival, rivals, levels}
 use Rattle.theory.specs.Response.{ceil, demand, load, own}
-use Rattle.theory.proofs.Each.{All, T-true, all-map, all-both, all-keep, keep-passes, all-upFrom, true-of}
-use Rattle.theory.proofs.Member.{all-at, mem-keep, mem-upFrom, mem-of-sort, mem-of-keep, mem-getD}
+use Rattle.theory.proofs.Each.{All, T-true, all-map, all-kept, true-of}
+use Rattle.theory.proofs.Member.{all-at, mem-keep, mem-of-sort, mem-of-keep, mem-getD}
+use Rattle.theory.proofs.Places.{places-inside, mem-places}
 use Rattle.theory.proofs.Sum.{where-passes, where-passes-true, where-passes-false, sum-append, sum-sort, sum-keep-le, sum-keep, sum-le, sum-eq}
 use Rattle.theory.proofs.Order.{Ordered, upFrom-ascending, ordered-keep, ordered-append-split, sort-ordered}
 use Rattle.theory.proofs.Tests.{less-or-tied, passes-less-or-tied, tied-asymmetric, tied-connected, tied-chain}
@@ -49,14 +50,11 @@ module _ (rows : List Row) where
   -- a row of the set that is a rival is in the list of rivals, and the other way round
   pub mem-rivals : (h k : ℕ) → h < length rows → T (rival rows h k) → List·Memᴰ h (rivals rows k)
   unfolding rivals
-  mem-rivals h k l t = mem-keep (λ x. rival rows x k) (mem-upFrom 0 (length rows) h zero-le (omega arith)) t
+  mem-rivals h k l t = mem-keep (λ x. rival rows x k) (mem-places rows h l) t
 
   pub all-rivals : (k : ℕ) → All (λ h. (h < length rows) × T (rival rows h k)) (rivals rows k)
   unfolding rivals
-  all-rivals k =
-      all-both (λ h. h < length rows) (λ h. T (rival rows h k)) (keep (λ x. rival rows x k) (places rows))
-      (all-keep (λ h. h < length rows) (λ x. rival rows x k) (places rows) (all-map (places rows) (λ x b. omega arith) (all-upFrom 0 (length rows))))
-      (keep-passes (λ x. rival rows x k) (places rows))
+  all-rivals k = all-kept (λ h. h < length rows) (λ x. rival rows x k) (places rows) (places-inside rows)
 
   -- the rivals of row k by rank
   abbrev pub ranked : ℕ → List ℕ
