@@ -11,7 +11,7 @@ use Rattle.theory.specs.Gather.{upFrom, best}
 use Rattle.theory.specs.Points.{coreAllowance}
 use Rattle.theory.proofs.Each.{All, all-map, all-kept, all-upFrom}
 use Rattle.theory.proofs.Member.{all-at, mem-keep, mem-upFrom, mem-map, mem-of-map}
-use Rattle.theory.proofs.Verdict.{within-steady}
+use Rattle.theory.proofs.Verdict.{AllSteady, within-steady}
 use Rattle.theory.proofs.CoreAllowance.{on-time-meets, meets-on-time, core-allowance-is, core-allowance-unique}
 use Rattle.placement.specs.Core.{Table}
 use Rattle.placement.specs.Choice.{Candidate, Rule, IsRule, joined, IsCandidate, IsChosen, NoCandidate}
@@ -35,6 +35,10 @@ module _
   pub joined-within : (m : ℕ) → AllWithin (joined table assignment i m)
   joined-within m = core-rows-each WithinLimits (table .rows) (set assignment i m) m within
 
+  -- so they have what the theory needs
+  pub joined-steady : (m : ℕ) → AllSteady (joined table assignment i m)
+  joined-steady m = within-steady (joined table assignment i m) (joined-within m)
+
   -- the rows of a core with row i are not none
   pub joined-some : (m : ℕ) → 0 < length (joined table assignment i m)
   joined-some m = omega (arith, stands-at (table .rows) (set assignment i m) i m in-table (omega (arith, length-set assignment i m)) (getD-set-same assignment i m 0 (omega arith)) .in-core)
@@ -43,12 +47,12 @@ module _
   pub candidate-at-is : (m : ℕ) → (1 ≤ m) × (m < 1 + table .cores) → T (takes table assignment i m) → IsCandidate table assignment i (candidateAt table assignment i m)
   unfolding takes candidateAt
   candidate-at-is m bounds t =
-      let all-meet = on-time-meets (joined table assignment i m) (within-steady (joined table assignment i m) (joined-within m)) t in
+      let all-meet = on-time-meets (joined table assignment i m) (joined-steady m) t in
       record {
         from-one = omega arith;
         on-table = omega arith;
         all-meet = all-meet;
-        its-allowance = core-allowance-is (joined table assignment i m) (within-steady (joined table assignment i m) (joined-within m)) all-meet (joined-some m);
+        its-allowance = core-allowance-is (joined table assignment i m) (joined-steady m) all-meet (joined-some m);
       }
 
   -- the cores that pass the test are candidates
@@ -63,7 +67,7 @@ module _
   -- a candidate's core passes the test
   pub candidate-taken : (c : Candidate) → IsCandidate table assignment i c → List·Memᴰ (c .core) (takers table assignment i)
   unfolding takers takes
-  candidate-taken c h = mem-keep (takes table assignment i) (mem-upFrom 1 (table .cores) (c .core) (h .from-one) (omega (arith, h .on-table))) (meets-on-time (joined table assignment i (c .core)) (within-steady (joined table assignment i (c .core)) (joined-within (c .core))) (h .all-meet))
+  candidate-taken c h = mem-keep (takes table assignment i) (mem-upFrom 1 (table .cores) (c .core) (h .from-one) (omega (arith, h .on-table))) (meets-on-time (joined table assignment i (c .core)) (joined-steady (c .core)) (h .all-meet))
 
   -- a candidate is the one computed at its core
   pub candidate-computed : (c : Candidate) → IsCandidate table assignment i c → candidateAt table assignment i (c .core) ≡ c
@@ -72,7 +76,7 @@ module _
       λ j.
       record {
         core = c .core;
-        allowance = core-allowance-unique (joined table assignment i (c .core)) (coreAllowance (joined table assignment i (c .core))) (c .allowance) (core-allowance-is (joined table assignment i (c .core)) (within-steady (joined table assignment i (c .core)) (joined-within (c .core))) (h .all-meet) (joined-some (c .core))) (h .its-allowance) j;
+        allowance = core-allowance-unique (joined table assignment i (c .core)) (coreAllowance (joined table assignment i (c .core))) (c .allowance) (core-allowance-is (joined table assignment i (c .core)) (joined-steady (c .core)) (h .all-meet) (joined-some (c .core))) (h .its-allowance) j;
       }
 
   module _ (rule : Rule) (is-rule : IsRule rule) where

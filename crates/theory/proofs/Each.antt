@@ -6,6 +6,7 @@ use mathlib.Core.Bool.{Bool, true, false, _&&_}
 use mathlib.Core.List.{List, [], _∷_, _++_}
 use lib.Dec.{T}
 use Rattle.theory.specs.Gather.{upFrom, keep, every, insert, sort}
+use Rattle.theory.proofs.Tests.{and-both, and-first, and-second}
 
 -- P holds of each of a list
 abbrev pub All : (ℕ → Type 0) → List ℕ → Type 0
@@ -103,21 +104,13 @@ all-upFrom i (suc n) = (omega arith, all-map (upFrom (suc i) n) (λ x h. omega a
 pub every-all : (test : ℕ → Bool) (xs : List ℕ) → T (every test xs) → All (λ x. T (test x)) xs
 unfolding every
 every-all test [] h = tt
-every-all test (x ∷ xs) h = (both (test x) (every test xs) h .0, every-all test xs (both (test x) (every test xs) h .1))
-  where
-    both : (a b : Bool) → T (a && b) → T a × T b
-    both true b h = (tt, h)
-    both false b h = absurd h
+every-all test (x ∷ xs) h = (and-first (test x) (every test xs) h, every-all test xs (and-second (test x) (every test xs) h))
 
 -- the test passes at each: the test of all passes
 pub all-every : (test : ℕ → Bool) (xs : List ℕ) → All (λ x. T (test x)) xs → T (every test xs)
 unfolding every
 all-every test [] h = tt
-all-every test (x ∷ xs) h = both (test x) (every test xs) (h .0) (all-every test xs (h .1))
-  where
-    both : (a b : Bool) → T a → T b → T (a && b)
-    both true b p q = q
-    both false b p q = p
+all-every test (x ∷ xs) h = and-both (test x) (every test xs) (h .0) (all-every test xs (h .1))
 
 -- each of the joined list: each of the two
 pub all-append-split : (P : ℕ → Type 0) (xs ys : List ℕ) → All P (xs ++ ys) → All P xs × All P ys

@@ -4,8 +4,8 @@ pub mod Each
 pub mod Member
 pub mod Best
 pub mod Places
-pub mod Sum
 pub mod Order
+pub mod Sum
 pub mod Limits
 pub mod Ceil
 pub mod Demand

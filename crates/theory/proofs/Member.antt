@@ -3,11 +3,13 @@ use mathlib.Core.Path.{_≡_, refl, sym, ap, _∙_, subst}
 use Prim.Native.Nat.{ℕ, zero, suc, _+_, _≤_, _<_}
 use native.Mathlib.Omega.{arith}
 use mathlib.Core.Bool.{Bool, true, false}
+use mathlib.Core.Logic.{⊎-elim}
 use mathlib.Core.List.{List, [], _∷_, map, List·Memᴰ, List·Memᴰ·head, List·Memᴰ·tail}
 use lib.Dec.{T, eqb}
 use lib.ListN.{length, getD}
 use borrow.Author.Tests.{eqb-true, eqb-false}
 use Rattle.theory.specs.Gather.{upFrom, keep, insert, sort}
+use Rattle.theory.proofs.Tests.{equal-or-not}
 use Rattle.theory.proofs.Each.{All, keep-cases, insert-cases, T-false, all-keep, all-sort}
 
 -- each: each member
@@ -69,11 +71,7 @@ mem-of-sort precedes xs m = all-at (λ y. List·Memᴰ y xs) m (all-sort (λ y. 
 pub mem-upFrom : (i n x : ℕ) → i ≤ x → x < i + n → List·Memᴰ x (upFrom i n)
 unfolding upFrom
 mem-upFrom i zero x low high = absurd (omega arith)
-mem-upFrom i (suc n) x low high = go (eqb x i) refl (mem-upFrom (suc i) n x)
-  where
-    go : (b : Bool) → eqb x i ≡ b → (suc i ≤ x → x < suc i + n → List·Memᴰ x (upFrom (suc i) n)) → List·Memᴰ x (i ∷ upFrom (suc i) n)
-    go true e f = List·Memᴰ·head (eqb-true x i e)
-    go false e f = List·Memᴰ·tail (f (omega (arith, eqb-false x i e)) (omega arith))
+mem-upFrom i (suc n) x low high = ⊎-elim List·Memᴰ·head (λ d. List·Memᴰ·tail (mem-upFrom (suc i) n x (omega arith) (omega arith))) (equal-or-not x i)
 
 -- what stands at a place of a list is one of it
 pub mem-getD : (xs : List ℕ) (j : ℕ) → j < length xs → List·Memᴰ (getD xs j 0) xs

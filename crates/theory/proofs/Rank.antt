@@ -56,15 +56,17 @@ module _ (rows : List Row) where
   unfolding rivals
   all-rivals k = all-kept (λ h. h < length rows) (λ x. rival rows x k) (places rows) (places-inside rows)
 
+  -- the rivals stand in table order
+  pub rivals-ascending : (k : ℕ) → Ordered _<_ (rivals rows k)
+  unfolding rivals
+  rivals-ascending k = ordered-keep _<_ (λ h. rival rows h k) (places rows) (upFrom-ascending 0 (length rows))
+
   -- the rivals of row k by rank
   abbrev pub ranked : ℕ → List ℕ
   ranked k = sort (above rows) (rivals rows k)
 
   pub ranked-ordered : (k : ℕ) → Ordered (λ x y. T (above rows x y)) (ranked k)
-  unfolding rivals
-  ranked-ordered k =
-      sort-ordered (above rows) above-transitive (λ x y h. above-connected x y (λ e. omega arith)) (rivals rows k)
-      (ordered-keep _<_ (λ h. rival rows h k) (places rows) (upFrom-ascending 0 (length rows)))
+  ranked-ordered k = sort-ordered (above rows) above-transitive (λ x y h. above-connected x y (λ e. omega arith)) (rivals rows k) (rivals-ascending k)
 
   -- the load of row k, by the levels of its walk
   pub load-by-levels : (k t : ℕ) → load rows k t ≡ own (rowAt rows k) + levelDemand (levels rows k) (length (levels rows k)) t

@@ -14,13 +14,13 @@ use Rattle.theory.specs.Gather.{sum, best, upFrom}
 use Rattle.theory.specs.Rank.{places, above, rival, rivals}
 use Rattle.theory.specs.Response.{ceil, demand, load, own, Meets, AllMeet}
 use Rattle.theory.specs.Utilisation.{work, AtMostOne}
+use Rattle.theory.proofs.Tests.{equal-or-not}
 use Rattle.theory.proofs.Ceil.{le-ceil, ceil-one}
 use Rattle.theory.proofs.Demand.{ask}
 use Rattle.theory.proofs.Each.{T-true, T-false, true-of}
 use Rattle.theory.proofs.Member.{all-from}
-use Rattle.theory.proofs.Sum.{where-passes, where-passes-true, where-passes-false, sum-keep, sum-eq, sum-le}
+use Rattle.theory.proofs.Sum.{where-passes, where-passes-true, where-passes-false, sum-keep, sum-eq, sum-le, only, only-there, only-elsewhere, sum-with, sum-of-both, sum-times}
 use Rattle.theory.proofs.Order.{upFrom-ascending}
-use Rattle.theory.proofs.Raise.{only, only-there, only-elsewhere, sum-with}
 use Rattle.theory.proofs.Rank.{above-transitive, above-connected, above-rival, rival-irreflexive}
 use Rattle.theory.proofs.Verdict.{AllSteady}
 use Rattle.theory.proofs.Best.{Best, best-of-others}
@@ -34,16 +34,6 @@ rate C T P R h =
     let whole : jobs * ((P / T) * T) ≤ jobs * P = mul-le-mul-left jobs (div-mul-le-self P T) in
     let both : (P / T) * R ≤ jobs * P = omega arith in
     omega (arith, mul-le-mul-left C both)
-
-sum-of-both : (f g : ℕ → ℕ) (xs : List ℕ) → sum (λ x. f x + g x) xs ≡ sum f xs + sum g xs
-unfolding sum
-sum-of-both f g [] = refl
-sum-of-both f g (x ∷ xs) = omega (arith, sum-of-both f g xs)
-
-sum-times : (f : ℕ → ℕ) (n : ℕ) (xs : List ℕ) → sum (λ x. f x * n) xs ≡ sum f xs * n
-unfolding sum
-sum-times f n [] = sym (zero-mul n)
-sum-times f n (x ∷ xs) = omega (arith, sum-times f n xs)
 
 false-of : (b : Bool) → (T b → ⊥) → b ≡ false
 false-of true n = absurd (n tt)
@@ -59,11 +49,7 @@ module _ (rows : List Row) where
   up-to-lower y next z e (inr a) = inr (above-transitive rows y z next a (T-true (above rows z next) e))
 
   not-above : (y z : ℕ) → above rows z y ≡ false → UpTo y z
-  not-above y z e = go (eqb y z) refl
-    where
-      go : (b : Bool) → eqb y z ≡ b → UpTo y z
-      go true f = inl (eqb-true y z f)
-      go false f = ⊎-elim (λ a. inr a) (λ b. absurd (T-false (above rows z y) e b)) (above-connected rows y z (eqb-false y z f))
+  not-above y z e = ⊎-elim inl (λ d. ⊎-elim inr (λ b. absurd (T-false (above rows z y) e b)) (above-connected rows y z d)) (equal-or-not y z)
 
   -- the lowest row in rank: every row is it, or ranks above it
   record Lowest : Type 0 where

@@ -1,5 +1,5 @@
 -- The walk, once over the level: what it yields lies between 1 and its start, and it yields a time with room wherever there is one.
-use mathlib.Core.Path.{_≡_, refl, ap, subst}
+use mathlib.Core.Path.{_≡_, refl, _∙_, ap, fun-ext, subst}
 use Prim.Native.Nat.{ℕ, zero, suc, _+_, _-_, _*_, _/_, _≤_, _<_}
 use mathlib.Core.Bool.{Bool, true, false}
 use mathlib.Core.Logic.{_⊎_, inl, inr, ⊎-elim}
@@ -14,20 +14,29 @@ use Rattle.theory.specs.Points.{lastMultiple, walk}
 use Rattle.theory.proofs.Ceil.{le-ceil, ceil-mono, multiple-below, ceil-behind, ceil-upto}
 use Rattle.theory.proofs.Demand.{levelDemand, levelDemand-repeated}
 
+-- the three ways of one level, over what the level below yields, by their tests
+ways : (ℕ → List ℕ) → ℕ → ℕ → Bool → Bool → List ℕ
+ways below s t at-multiple behind-multiple =
+    elim at-multiple [ true ↦ below t | false ↦ elim behind-multiple [ true ↦ below s ++ below t | false ↦ below t ] ]
+
+-- one level of the walk, by its period
+oneLevel : (ℕ → List ℕ) → ℕ → ℕ → List ℕ
+oneLevel below period t = ways below (lastMultiple period t) t (eqb (lastMultiple period t) t) (ltb 0 (lastMultiple period t))
+
+-- the walk goes by periods alone
+pub walk-by-periods : (gs hs : List Row) → ((j : ℕ) → rowAt gs j .T ≡ rowAt hs j .T) → (j t : ℕ) → walk gs j t ≡ walk hs j t
+unfolding walk ways oneLevel
+walk-by-periods gs hs same zero t = refl
+walk-by-periods gs hs same (suc j) t =
+    ap (λ (below : ℕ → List ℕ). oneLevel below (rowAt gs j .T) t) (fun-ext (walk-by-periods gs hs same j))
+    ∙ ap (λ (period : ℕ). oneLevel (walk hs j) period t) (same j)
+
 module _ (hs : List Row) where
   -- the multiple that level j + 1 goes by
   abbrev pub stop : ℕ → ℕ → ℕ
   stop j t = lastMultiple (rowAt hs j .T) t
 
-  -- the three ways of one level, by their tests
-  ways : ℕ → ℕ → Bool → Bool → List ℕ
-  ways j t at-multiple behind-multiple =
-      elim at-multiple [
-        | true ↦ walk hs j t
-        | false ↦ elim behind-multiple [ true ↦ walk hs j (stop j t) ++ walk hs j t | false ↦ walk hs j t ]
-      ]
-
-  walk-ways : (j t : ℕ) → walk hs (suc j) t ≡ ways j t (eqb (stop j t) t) (ltb 0 (stop j t))
+  walk-ways : (j t : ℕ) → walk hs (suc j) t ≡ ways (walk hs j) (stop j t) t (eqb (stop j t) t) (ltb 0 (stop j t))
   unfolding walk ways
   walk-ways j t = refl
 
@@ -36,7 +45,7 @@ module _ (hs : List Row) where
   unfolding ways
   walk-from-same j t p m = rw walk-ways (go (eqb (stop j t) t) (ltb 0 (stop j t)))
     where
-      go : (a b : Bool) → List·Memᴰ p (ways j t a b)
+      go : (a b : Bool) → List·Memᴰ p (ways (walk hs j) (stop j t) t a b)
       go true b = m
       go false true = Memᴰ·append-right (walk hs j (stop j t)) m
       go false false = m
@@ -46,7 +55,7 @@ module _ (hs : List Row) where
   unfolding ways
   walk-from-stop j t p h m = rw walk-ways (go (eqb (stop j t) t) (ltb 0 (stop j t)) refl refl)
     where
-      go : (a b : Bool) → eqb (stop j t) t ≡ a → ltb 0 (stop j t) ≡ b → List·Memᴰ p (ways j t a b)
+      go : (a b : Bool) → eqb (stop j t) t ≡ a → ltb 0 (stop j t) ≡ b → List·Memᴰ p (ways (walk hs j) (stop j t) t a b)
       go true b e f = subst (λ (s : ℕ). List·Memᴰ p (walk hs j s)) (eqb-true (stop j t) t e) m
       go false true e f = Memᴰ·append-left (walk hs j t) m
       go false false e f = absurd (let z : stop j t ≤ 0 = ltb-false 0 (stop j t) f in omega arith)
@@ -56,7 +65,7 @@ module _ (hs : List Row) where
   unfolding ways
   walk-cases j t p m = go (eqb (stop j t) t) (ltb 0 (stop j t)) refl (rw walk-ways at m)
     where
-      go : (a b : Bool) → ltb 0 (stop j t) ≡ b → List·Memᴰ p (ways j t a b)
+      go : (a b : Bool) → ltb 0 (stop j t) ≡ b → List·Memᴰ p (ways (walk hs j) (stop j t) t a b)
           → List·Memᴰ p (walk hs j t) ⊎ ((0 < stop j t) × List·Memᴰ p (walk hs j (stop j t)))
       go true b f q = inl q
       go false true f q =
