@@ -1,5 +1,5 @@
 -- One computed step of the placement is the stated one, by every rule of choice.
-use mathlib.Core.Path.{_≡_, refl, sym, subst}
+use mathlib.Core.Path.{_≡_, refl, subst}
 use Prim.Native.Nat.{ℕ, _+_, _≤_, _<_}
 use native.Mathlib.Omega.{arith}
 use mathlib.Core.List.{List, [], _∷_, map, List·Memᴰ, List·Memᴰ·not-nil}

@@ -1,6 +1,6 @@
 -- The placement as a computation: its steps, its run, and the certificate that comes out. `proofs/Computed.antt` says that it is the stated one.
 use Prim.Native.Nat.{ℕ}
-use mathlib.Core.Bool.{Bool, true, false}
+use mathlib.Core.Bool.{Bool}
 use mathlib.Core.List.{List, [], _∷_, map}
 use lib.ListN.{length, set, replicate}
 use Rattle.theory.specs.Row.{Row}

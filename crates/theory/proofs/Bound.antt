@@ -1,19 +1,19 @@
 -- Bounds and point allowances: the computed ones are the stated ones, they are unique, and a number is at most a bound exactly when some point
 -- has room for it.
-use mathlib.Core.Path.{_≡_, refl, sym, ap, subst}
-use Prim.Native.Nat.{ℕ, _+_, _*_, _≤_, _<_, zero-le}
+use mathlib.Core.Path.{_≡_, refl, sym, subst}
+use Prim.Native.Nat.{ℕ, _+_, _*_, _≤_, _<_}
 use mathlib.Core.Bool.{Bool, true, false}
-use mathlib.Core.Logic.{_↔_, _⊎_, inl, inr, ⊎-elim}
-use mathlib.Core.List.{List, [], _∷_, map, List·Memᴰ, List·Memᴰ·head, List·Memᴰ·tail, List·Memᴰ·cases-cons}
+use mathlib.Core.Logic.{_↔_}
+use mathlib.Core.List.{List, map, List·Memᴰ}
 use native.Mathlib.Omega.{arith}
 use lib.Dec.{T, eqb, eqb-refl}
 use lib.IntN.{ℤ, pos}
 use lib.ListN.{length}
 use lib.Signed.{leZ, _≤ℤ_, ≤ℤ-refl}
 use Rattle.theory.specs.Row.{Row, rowAt}
-use Rattle.theory.specs.Gather.{best, keep}
+use Rattle.theory.specs.Gather.{keep}
 use Rattle.theory.specs.Rank.{places, rival, levels}
-use Rattle.theory.specs.Response.{ceil, load}
+use Rattle.theory.specs.Response.{load}
 use Rattle.theory.specs.Points.{points, slack, times, quotient, greatestOf, smallestOf, touches, IsBound, IsPointAllowance, bound, pointAllowance}
 use Rattle.theory.proofs.Tests.{or-first}
 use Rattle.theory.proofs.Each.{all-kept}

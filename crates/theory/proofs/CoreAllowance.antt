@@ -1,9 +1,7 @@
 -- The allowance of a core, computed and stated, and whether all rows of a set meet, computed and stated.
 use mathlib.Core.Path.{_≡_, sym, _∙_, subst}
-use Prim.Native.Nat.{ℕ, _+_, _≤_, _<_, zero-le}
-use mathlib.Core.Logic.{⊎-elim}
-use mathlib.Core.List.{List, map, List·Memᴰ, List·Memᴰ·tail, List·Memᴰ·cases-cons}
-use native.Mathlib.Omega.{arith}
+use Prim.Native.Nat.{ℕ, _<_}
+use mathlib.Core.List.{List, map}
 use native.Mathlib.Nat.{le-antisymm}
 use lib.Dec.{T}
 use lib.IntN.{ℤ, pos, natAbs}

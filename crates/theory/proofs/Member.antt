@@ -5,9 +5,8 @@ use native.Mathlib.Omega.{arith}
 use mathlib.Core.Bool.{Bool, true, false}
 use mathlib.Core.Logic.{⊎-elim}
 use mathlib.Core.List.{List, [], _∷_, map, List·Memᴰ, List·Memᴰ·head, List·Memᴰ·tail}
-use lib.Dec.{T, eqb}
+use lib.Dec.{T}
 use lib.ListN.{length, getD}
-use borrow.Author.Tests.{eqb-true, eqb-false}
 use Rattle.theory.specs.Gather.{upFrom, keep, insert, sort}
 use Rattle.theory.proofs.Tests.{equal-or-not}
 use Rattle.theory.proofs.Each.{All, keep-cases, insert-cases, T-false, all-keep, all-sort}

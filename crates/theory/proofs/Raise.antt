@@ -1,24 +1,22 @@
 -- What raising row i by a does to row k: its points stay, and its load at t grows by a for each time that it counts C of row i.
 use mathlib.Core.Path.{_≡_, refl, sym, _∙_, ap, fun-ext, subst}
-use Prim.Native.Nat.{ℕ, zero, suc, _+_, _*_, _≤_, _<_}
+use Prim.Native.Nat.{ℕ, zero, suc, _+_, _*_, _<_}
 use mathlib.Core.Bool.{Bool, true, false}
 use mathlib.Core.Logic.{_⊎_, inl, inr, ⊎-elim}
-use mathlib.Core.List.{List, [], _∷_, _++_, map, List·Memᴰ, List·Memᴰ·head, List·Memᴰ·tail}
+use mathlib.Core.List.{List, [], _∷_, map}
 use native.Mathlib.Omega.{arith}
 use native.Mathlib.Nat.{mul-add, mul-comm, mul-zero, mul-one}
-use borrow.Author.Tests.{eqb-true, eqb-false, eq-eqb, ne-eqb}
-use lib.Dec.{T, ltb, eqb}
-use lib.ListN.{length, getD, set, length-set, length-map}
+use borrow.Author.Tests.{eqb-true, eqb-false, eq-eqb}
+use lib.Dec.{T, eqb}
+use lib.ListN.{length, length-set, length-map}
 use lib.Seq.{getD-set-same, getD-set-other}
 use Rattle.theory.specs.Row.{Row, rowAt}
 use Rattle.theory.specs.Gather.{lessOrTied, sum, keep, sort, upFrom}
 use Rattle.theory.specs.Rank.{places, above, rival, rivals, levels}
 use Rattle.theory.specs.Response.{ceil, own, demand, load}
 use Rattle.theory.specs.Allowance.{longer, raised}
-use Rattle.theory.specs.Points.{lastMultiple, walk, points, times, touches}
-use Rattle.theory.proofs.Each.{All, all-map, true-of, T-true, T-false}
-use Rattle.theory.proofs.Member.{all-at}
-use Rattle.theory.proofs.Order.{Ordered, upFrom-ascending, ordered-keep, ordered-map}
+use Rattle.theory.specs.Points.{walk, points, times, touches}
+use Rattle.theory.proofs.Each.{all-map, T-true, T-false}
 use Rattle.theory.proofs.Sum.{only, only-there, only-elsewhere, sum-without, sum-with}
 use Rattle.theory.proofs.Walk.{walk-by-periods}
 use Rattle.theory.proofs.Demand.{ask}

@@ -1,23 +1,22 @@
 -- Rank is a strict order, and what the levels of a row's walk have to do with its rivals. Of the relation `rival` the theory uses three laws:
 -- it looks at deadlines and places only, it holds where one row ranks above another, and the rivals of a row ranked above are among its own.
-use mathlib.Core.Path.{_≡_, refl, sym, _∙_, ap, subst}
-use Prim.Native.Nat.{ℕ, zero, suc, _+_, _*_, _≤_, _<_, zero-le}
-use mathlib.Core.Bool.{Bool, true, false}
-use mathlib.Core.Logic.{_↔_, _⊎_, inl, inr, ⊎-elim}
-use mathlib.Core.List.{List, [], _∷_, _++_, map, List·Memᴰ}
+use mathlib.Core.Path.{_≡_, sym, ap, subst}
+use Prim.Native.Nat.{ℕ, suc, _+_, _≤_, _<_}
+use mathlib.Core.Logic.{_↔_, _⊎_}
+use mathlib.Core.List.{List, _∷_, _++_, map, List·Memᴰ}
 use native.Mathlib.Omega.{arith}
 use native.Mathlib.Nat.{le-of-eq, le-of-lt, le-refl, le-trans}
 use lib.Dec.{T}
 use lib.ListN.{length, getD, take, drop, length-map}
 use lib.Seq.{split-at, take-length}
 use Rattle.theory.specs.Row.{Row, rowAt}
-use Rattle.theory.specs.Gather.{sum, keep, sort}
+use Rattle.theory.specs.Gather.{sum, sort}
 use Rattle.theory.specs.Rank.{places, above, rival, rivals, levels}
-use Rattle.theory.specs.Response.{ceil, demand, load, own}
-use Rattle.theory.proofs.Each.{All, T-true, all-map, all-kept, true-of}
-use Rattle.theory.proofs.Member.{all-at, mem-keep, mem-of-sort, mem-of-keep, mem-getD}
+use Rattle.theory.specs.Response.{demand, load, own}
+use Rattle.theory.proofs.Each.{All, all-map, all-kept, true-of}
+use Rattle.theory.proofs.Member.{all-at, mem-keep, mem-of-sort, mem-getD}
 use Rattle.theory.proofs.Places.{places-inside, mem-places}
-use Rattle.theory.proofs.Sum.{where-passes, where-passes-true, where-passes-false, sum-append, sum-sort, sum-keep-le, sum-keep, sum-le, sum-eq}
+use Rattle.theory.proofs.Sum.{where-passes, where-passes-true, sum-append, sum-sort, sum-keep-le, sum-keep, sum-eq}
 use Rattle.theory.proofs.Order.{Ordered, upFrom-ascending, ordered-keep, ordered-append-split, sort-ordered}
 use Rattle.theory.proofs.Tests.{less-or-tied, passes-less-or-tied, tied-asymmetric, tied-connected, tied-chain}
 use Rattle.theory.proofs.Demand.{ask, levelDemand, demand-of-first, row-of-place}

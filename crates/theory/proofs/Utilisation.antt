@@ -1,18 +1,17 @@
 -- Equation (1) follows: a set whose rows all meet has a utilisation of at most one.
-use mathlib.Core.Path.{_≡_, refl, sym, _∙_, ap, subst}
-use Prim.Native.Nat.{ℕ, zero, suc, _+_, _*_, _/_, _≤_, _<_, zero-le}
+use mathlib.Core.Path.{_≡_, refl, sym, ap, subst}
+use Prim.Native.Nat.{ℕ, _+_, _*_, _/_, _≤_, _<_, zero-le}
 use mathlib.Core.Bool.{Bool, true, false}
 use mathlib.Core.Logic.{_⊎_, inl, inr, ⊎-elim}
-use mathlib.Core.List.{List, [], _∷_, List·Memᴰ, List·Memᴰ·head, List·Memᴰ·tail, List·Memᴰ·cases-cons}
+use mathlib.Core.List.{List, [], _∷_}
 use native.Mathlib.Omega.{arith}
-use native.Mathlib.Nat.{le-refl, le-trans, le-of-eq, mul-le-mul, mul-le-mul-left, mul-le-mul-right, mul-assoc, mul-comm, add-mul, zero-mul, div-mul-le-self, le-of-mul-le-mul-right, mul-right-comm, one-mul}
-use borrow.Author.Tests.{eqb-true, eqb-false}
-use lib.Dec.{T, eqb}
+use native.Mathlib.Nat.{le-trans, mul-le-mul-left, div-mul-le-self, le-of-mul-le-mul-right, one-mul}
+use lib.Dec.{T}
 use lib.ListN.{length}
 use Rattle.theory.specs.Row.{Row, rowAt}
 use Rattle.theory.specs.Gather.{sum, best, upFrom}
 use Rattle.theory.specs.Rank.{places, above, rival, rivals}
-use Rattle.theory.specs.Response.{ceil, demand, load, own, Meets, AllMeet}
+use Rattle.theory.specs.Response.{ceil, demand, load, AllMeet}
 use Rattle.theory.specs.Utilisation.{work, AtMostOne}
 use Rattle.theory.proofs.Tests.{equal-or-not}
 use Rattle.theory.proofs.Ceil.{le-ceil, ceil-one}
