@@ -52,13 +52,14 @@ module _ {A : Type 0} (better : A → A → Bool) where
       (reflexive : (z : A) → Under z z)
       (kept : (y next z : A) → better next z ≡ true → Under y z → Under y next)
       (fails : (next z : A) → better next z ≡ false → Under next z) where
+    -- the best is as good as each of the others
     over-others : (first : A) (others : List A) (y : A) → List·Memᴰ y others → Under y (best better first others)
     over-others first (next ∷ others) y (List·Memᴰ·head e) =
         subst (λ (x : A). Under x (best better first (next ∷ others))) (sym e)
         (best-cases (Under next) first next others (λ t. best-keeps (Under next) (kept next) next others (reflexive next)) (λ t. best-keeps (Under next) (kept next) first others (fails next first t)))
     over-others first (next ∷ others) y (List·Memᴰ·tail m) = best-cases (Under y) first next others (λ t. over-others next others y m) (λ t. over-others first others y m)
 
-    -- the best is as good as each of them
+    -- it is the best of them
     pub best-is : (first : A) (others : List A) → Best Under (first ∷ others) (best better first others)
     best-is first others = record { attained = best-among first others; over-all = over-all }
       where

@@ -29,7 +29,7 @@ use Rattle.theory.proofs.Verdict.{AllSteady}
 greatest-is : (first : ℤ) (others : List ℤ) → List·Memᴰ first others → Best _≤ℤ_ others (greatestOf first others)
 greatest-is = best-of-others (λ next first. leZ first next) _≤ℤ_ ≤ℤ-refl (λ y next z e h. ≤ℤ-trans y z next h (leZ-passes z next e)) (λ next z. leZ-fails z next)
 
--- the smallest
+-- the smallest of a first number and others, the first among them
 pub smallest-is : (first : ℤ) (others : List ℤ) → List·Memᴰ first others → Best (λ y z. z ≤ℤ y) others (smallestOf first others)
 smallest-is = best-of-others (λ next first. leZ next first) (λ y z. z ≤ℤ y) ≤ℤ-refl (λ y next z e h. ≤ℤ-trans next z y (leZ-passes next z e) h) leZ-fails
 

@@ -75,9 +75,11 @@ sum-keep-le test term xs =
 abbrev pub only : ℕ → ℕ → ℕ → ℕ
 only i x h = where-passes (λ (k : ℕ). eqb k i) (λ k. x) h
 
+-- at i it is x
 pub only-there : (i x h : ℕ) → h ≡ i → only i x h ≡ x
 only-there i x h e = where-passes-true (λ k. eqb k i) (λ k. x) h (eq-eqb h i e)
 
+-- elsewhere it is 0
 pub only-elsewhere : (i x h : ℕ) → (h ≡ i → ⊥) → only i x h ≡ 0
 only-elsewhere i x h d = where-passes-false (λ k. eqb k i) (λ k. x) h (ne-eqb h i d)
 

@@ -1,4 +1,4 @@
--- What joined tests mean, and the order with a rule for ties.
+-- What joined tests mean, the cases of two numbers, and the order with a rule for ties.
 use mathlib.Core.Path.{_≡_, refl, sym, subst}
 use Prim.Native.Nat.{ℕ, _≤_, _<_}
 use mathlib.Core.Bool.{Bool, true, false, _&&_, _||_}
