@@ -11,7 +11,7 @@ use Rattle.theory.specs.Points.{lastMultiple, walk, points, slack, floorDiv, ti
 use Rattle.placement.specs.Core.{coreRows}
 use Rattle.placement.specs.Order.{taken}
 use Rattle.placement.specs.Choice.{allowanceFit}
-use Rattle.placement.specs.Placing.{takes, candidateAt, takers, preferred, chosenOf, stepOf, Run, placed, stoppedAt, run}
+use Rattle.placement.specs.Placing.{takes, candidateAt, takers, chosenOf, stepOf, Run, placed, stoppedAt, run}
 
 -- C/D/T
 abbrev row : ℕ → ℕ → ℕ → Row
@@ -19,7 +19,7 @@ row c d t = record { C = c; D = d; T = t }
 
 -- the run for a table, by Allowance-Fit from the start
 pub runFor : ℕ → List Row → Run
-unfolding run stepOf takers takes candidateAt preferred chosenOf taken coreRows coreAllowance upFrom keep sum every insert sort rivals levels ceil demand load climb outcome onTime lastMultiple walk points slack floorDiv times quotient best bound pointAllowance
+unfolding run stepOf takers takes candidateAt chosenOf taken coreRows coreAllowance upFrom keep sum every insert sort rivals levels ceil demand load climb outcome onTime lastMultiple walk points slack floorDiv times quotient best bound pointAllowance
 runFor cores rows = run allowanceFit (record { cores = cores; rows = rows }) (replicate (length rows) 0) (taken rows)
 
 -- the four of document 01, "Sheets to reproduce"
@@ -27,8 +27,8 @@ abbrev the-four : List Row
 the-four = row 10 60 70 ∷ row 15 85 100 ∷ row 30 190 210 ∷ row 45 260 320 ∷ []
 
 -- of cores with one core allowance, the lower in number keeps the row
-pub lower-core-keeps : preferred allowanceFit (record { core = 1; allowance = 47 }) (record { core = 2; allowance = 47 } ∷ []) .core ≡ 1
-unfolding preferred
+pub lower-core-keeps : best allowanceFit (record { core = 1; allowance = 47 }) (record { core = 2; allowance = 47 } ∷ []) .core ≡ 1
+unfolding best
 lower-core-keeps = refl
 
 -- in whole per cent 33/100/100 and 1/3/3 tie, though 1/3 is larger: the second is taken first

@@ -2,24 +2,16 @@
 use mathlib.Core.Path.{_≡_, refl, sym, ap, _∙_}
 use Prim.Native.Nat.{ℕ, zero, suc, _≤_, _<_}
 use native.Mathlib.Omega.{arith}
-use mathlib.Core.Bool.{Bool, true, false}
 use mathlib.Core.Logic.{_⊎_, inl, inr}
 use mathlib.Core.List.{List, [], _∷_}
 use lib.Dec.{eqb}
 use lib.ListN.{length, set, replicate}
-use borrow.Author.Tests.{eqb-true, eqb-false, eq-eqb, ne-eqb}
+use borrow.Author.Tests.{eq-eqb, ne-eqb}
 use Rattle.theory.specs.Row.{Row, rowAt}
 use Rattle.theory.specs.Gather.{upFrom, keep}
+use Rattle.theory.proofs.Tests.{equal-or-not}
 use Rattle.theory.proofs.Member.{length-keep-shift}
 use Rattle.placement.specs.Core.{coreRows, coreOf, placeOnCore}
-
--- two core numbers are one or are not
-pub same-core : (n m : ℕ) → (n ≡ m) ⊎ (n ≡ m → ⊥)
-same-core n m = go (eqb n m) refl
-  where
-    go : (b : Bool) → eqb n m ≡ b → (n ≡ m) ⊎ (n ≡ m → ⊥)
-    go true e = inl (eqb-true n m e)
-    go false e = inr (eqb-false n m e)
 
 module _ (row : Row) (rows : List Row) (core : ℕ) (assignment : List ℕ) (m : ℕ) where
   -- the first row is on the core
@@ -43,7 +35,7 @@ unfolding coreRows
 core-rows-each P [] assignment m each k h = absurd (omega arith)
 core-rows-each P (row ∷ rows) [] m each k h = absurd (omega arith)
 core-rows-each P (row ∷ rows) (core ∷ assignment) m each k h =
-    go (same-core core m) (core-rows-each P rows assignment m (λ k h. each (suc k) (omega arith))) k h
+    go (equal-or-not core m) (core-rows-each P rows assignment m (λ k h. each (suc k) (omega arith))) k h
   where
     first : (rs : List Row) → ((k : ℕ) → k < length rs → P (rowAt rs k)) → (k : ℕ) → k < suc (length rs) → P (rowAt (row ∷ rs) k)
     first rs others zero h = each 0 (omega arith)
@@ -69,7 +61,7 @@ core-rows-other [] assignment i n m was new = refl
 core-rows-other (row ∷ rows) [] i n m was new = refl
 core-rows-other (row ∷ rows) (core ∷ assignment) zero n m was new =
     core-rows-elsewhere row rows n assignment m new ∙ sym (core-rows-elsewhere row rows core assignment m was)
-core-rows-other (row ∷ rows) (core ∷ assignment) (suc i) n m was new = go (same-core core m) (core-rows-other rows assignment i n m was new)
+core-rows-other (row ∷ rows) (core ∷ assignment) (suc i) n m was new = go (equal-or-not core m) (core-rows-other rows assignment i n m was new)
   where
     go :
         (core ≡ m) ⊎ (core ≡ m → ⊥)
@@ -116,7 +108,7 @@ unfolding countBefore upFrom keep
 stands-at [] assignment i m h g e = absurd (omega arith)
 stands-at (row ∷ rows) [] i m h g e = absurd (omega arith)
 stands-at (row ∷ rows) (core ∷ assignment) zero m h g e = rw (core-rows-here row rows core assignment m e) (record { in-core = omega arith; same-row = refl })
-stands-at (row ∷ rows) (core ∷ assignment) (suc i) m h g e = go (same-core core m) (stands-at rows assignment i m (omega arith) (omega arith) e)
+stands-at (row ∷ rows) (core ∷ assignment) (suc i) m h g e = go (equal-or-not core m) (stands-at rows assignment i m (omega arith) (omega arith) e)
   where
     go :
         (core ≡ m) ⊎ (core ≡ m → ⊥)

@@ -6,14 +6,13 @@ use mathlib.Core.Logic.{_⊎_, inl, inr, _↔_}
 use mathlib.Core.List.{List, [], _∷_}
 use lib.Dec.{T}
 use lib.ListN.{length, set}
+use Rattle.theory.proofs.Tests.{equal-or-not, order-cases}
 use Rattle.theory.proofs.Each.{All}
 use Rattle.placement.specs.Core.{Table}
 use Rattle.placement.specs.Order.{taken}
 use Rattle.placement.specs.Choice.{Rule, IsRule, IsChosen, NoCandidate}
 use Rattle.placement.specs.Placement.{Moment, start, step, Stopped}
 use Rattle.placement.specs.Figures.{Figures, AreFigures, Certified, Certificate, certified, noCoreTakes, IsCertificate}
-use Rattle.placement.proofs.Compared.{order-cases}
-use Rattle.placement.proofs.Core.{same-core}
 use Rattle.placement.proofs.Moment.{underway}
 use Rattle.placement.proofs.Certified.{all-figures-unique}
 
@@ -34,7 +33,7 @@ left-at-most rule table (step p c) = omega (arith, left-at-most rule table p)
 module _ (rule : Rule) (is-rule : IsRule rule) (table : Table) where
   -- a row goes to one core
   pub chosen-once : (a : List ℕ) (i m n : ℕ) → IsChosen rule table a i m → IsChosen rule table a i n → m ≡ n
-  chosen-once a i m n c d = go (same-core (c .choice .core) (d .choice .core))
+  chosen-once a i m n c d = go (equal-or-not (c .choice .core) (d .choice .core))
     where
       preferred : T (rule (c .choice) (d .choice)) ⊎ T (rule (d .choice) (c .choice)) → ⊥
       preferred (inl t) = d .none-preferred (c .choice) (c .is-candidate) t

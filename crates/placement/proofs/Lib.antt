@@ -1,6 +1,5 @@
 -- Laws of document 01, "Placement".
 pub mod Apart
-pub mod Compared
 pub mod Fit
 pub mod Order
 pub mod Core

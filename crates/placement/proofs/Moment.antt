@@ -7,13 +7,14 @@ use mathlib.Core.List.{List, [], _∷_, List·Memᴰ, List·Memᴰ·cases-cons, 
 use lib.ListN.{length, set, replicate, length-set, length-replicate, getD-replicate}
 use lib.Seq.{getD-set-same, getD-set-other}
 use Rattle.theory.specs.Response.{AllMeet}
+use Rattle.theory.proofs.Tests.{equal-or-not}
 use Rattle.theory.proofs.Each.{All, all-map, all-both}
 use Rattle.theory.proofs.Order.{Ordered}
 use Rattle.placement.specs.Core.{Table, coreRows, coreOf}
 use Rattle.placement.specs.Order.{taken}
 use Rattle.placement.specs.Choice.{Rule, joined, IsChosen}
 use Rattle.placement.specs.Placement.{Moment, start, step}
-use Rattle.placement.proofs.Core.{same-core, core-rows-other, core-rows-none}
+use Rattle.placement.proofs.Core.{core-rows-other, core-rows-none}
 use Rattle.placement.proofs.Order.{taken-places, taken-every, taken-once}
 
 -- row i is on a core of the table
@@ -63,7 +64,7 @@ module _ (rule : Rule) (table : Table) (assignment : List ℕ) (i : ℕ) (rest :
 
   -- every row is on a core of the table or still to be taken
   step-placed-or-left : (j : ℕ) → j < length (table .rows) → OnSomeCore table (set assignment i m) j ⊎ List·Memᴰ j rest
-  step-placed-or-left j h = go (same-core i j) (was .placed-or-left j h)
+  step-placed-or-left j h = go (equal-or-not i j) (was .placed-or-left j h)
     where
       go : (i ≡ j) ⊎ (i ≡ j → ⊥) → OnSomeCore table assignment j ⊎ List·Memᴰ j (i ∷ rest) → OnSomeCore table (set assignment i m) j ⊎ List·Memᴰ j rest
       go (inl e) p = inl (subst (OnSomeCore table (set assignment i m)) e here)
@@ -72,7 +73,7 @@ module _ (rule : Rule) (table : Table) (assignment : List ℕ) (i : ℕ) (rest :
 
   -- every core's rows all meet
   step-cores-meet : (n : ℕ) → 1 ≤ n → AllMeet (coreRows (table .rows) (set assignment i m) n)
-  step-cores-meet n h = go (same-core m n)
+  step-cores-meet n h = go (equal-or-not m n)
     where
       go : (m ≡ n) ⊎ (m ≡ n → ⊥) → AllMeet (coreRows (table .rows) (set assignment i m) n)
       go (inl e) = subst (λ c. AllMeet (coreRows (table .rows) (set assignment i m) c)) e (subst (λ c. AllMeet (joined table assignment i c)) (chosen .its-core) (chosen .is-candidate .all-meet))

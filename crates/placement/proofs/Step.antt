@@ -1,5 +1,5 @@
 -- One computed step of the placement is the stated one, by every rule of choice.
-use mathlib.Core.Path.{_≡_, refl, sym, subst}
+use mathlib.Core.Path.{_≡_, refl, subst}
 use Prim.Native.Nat.{ℕ, _+_, _≤_, _<_}
 use native.Mathlib.Omega.{arith}
 use mathlib.Core.List.{List, [], _∷_, map, List·Memᴰ, List·Memᴰ·not-nil}
@@ -7,17 +7,17 @@ use lib.Dec.{T}
 use lib.ListN.{length, set, length-set}
 use lib.Seq.{getD-set-same}
 use Rattle.theory.specs.Row.{WithinLimits, AllWithin}
-use Rattle.theory.specs.Gather.{upFrom}
+use Rattle.theory.specs.Gather.{upFrom, best}
 use Rattle.theory.specs.Points.{coreAllowance}
-use Rattle.theory.proofs.Each.{All, all-map, all-keep, all-both, keep-passes, all-upFrom}
-use Rattle.theory.proofs.Member.{all-at, mem-keep, mem-upFrom}
-use Rattle.theory.proofs.Verdict.{within-steady}
+use Rattle.theory.proofs.Each.{All, all-map, all-kept, all-upFrom}
+use Rattle.theory.proofs.Member.{all-at, mem-keep, mem-upFrom, mem-map, mem-of-map}
+use Rattle.theory.proofs.Verdict.{AllSteady, within-steady}
 use Rattle.theory.proofs.CoreAllowance.{on-time-meets, meets-on-time, core-allowance-is, core-allowance-unique}
 use Rattle.placement.specs.Core.{Table}
 use Rattle.placement.specs.Choice.{Candidate, Rule, IsRule, joined, IsCandidate, IsChosen, NoCandidate}
-use Rattle.placement.specs.Placing.{takes, candidateAt, takers, preferred, Step, toCore, noCore, chosenOf, stepOf}
+use Rattle.placement.specs.Placing.{takes, candidateAt, takers, Step, toCore, noCore, chosenOf, stepOf}
 use Rattle.placement.proofs.Core.{core-rows-each, stands-at}
-use Rattle.placement.proofs.Preferred.{preferred-among, none-preferred}
+use Rattle.placement.proofs.Preferred.{none-preferred}
 
 -- what a computed step has to say of row i: the core to which it goes, or that none takes it
 abbrev pub IsStep : Rule → Table → List ℕ → ℕ → Step → Type 0
@@ -35,6 +35,10 @@ module _
   pub joined-within : (m : ℕ) → AllWithin (joined table assignment i m)
   joined-within m = core-rows-each WithinLimits (table .rows) (set assignment i m) m within
 
+  -- so they have what the theory needs
+  pub joined-steady : (m : ℕ) → AllSteady (joined table assignment i m)
+  joined-steady m = within-steady (joined table assignment i m) (joined-within m)
+
   -- the rows of a core with row i are not none
   pub joined-some : (m : ℕ) → 0 < length (joined table assignment i m)
   joined-some m = omega (arith, stands-at (table .rows) (set assignment i m) i m in-table (omega (arith, length-set assignment i m)) (getD-set-same assignment i m 0 (omega arith)) .in-core)
@@ -43,12 +47,12 @@ module _
   pub candidate-at-is : (m : ℕ) → (1 ≤ m) × (m < 1 + table .cores) → T (takes table assignment i m) → IsCandidate table assignment i (candidateAt table assignment i m)
   unfolding takes candidateAt
   candidate-at-is m bounds t =
-      let all-meet = on-time-meets (joined table assignment i m) (within-steady (joined table assignment i m) (joined-within m)) t in
+      let all-meet = on-time-meets (joined table assignment i m) (joined-steady m) t in
       record {
         from-one = omega arith;
         on-table = omega arith;
         all-meet = all-meet;
-        its-allowance = core-allowance-is (joined table assignment i m) (within-steady (joined table assignment i m) (joined-within m)) all-meet (joined-some m);
+        its-allowance = core-allowance-is (joined table assignment i m) (joined-steady m) all-meet (joined-some m);
       }
 
   -- the cores that pass the test are candidates
@@ -58,17 +62,12 @@ module _
       all-map
       (takers table assignment i)
       (λ m h. candidate-at-is m (h .0) (h .1))
-      (all-both
-      (λ m. (1 ≤ m) × (m < 1 + table .cores))
-      (λ m. T (takes table assignment i m))
-      (takers table assignment i)
-      (all-keep (λ m. (1 ≤ m) × (m < 1 + table .cores)) (takes table assignment i) (upFrom 1 (table .cores)) (all-upFrom 1 (table .cores)))
-      (keep-passes (takes table assignment i) (upFrom 1 (table .cores))))
+      (all-kept (λ m. (1 ≤ m) × (m < 1 + table .cores)) (takes table assignment i) (upFrom 1 (table .cores)) (all-upFrom 1 (table .cores)))
 
   -- a candidate's core passes the test
   pub candidate-taken : (c : Candidate) → IsCandidate table assignment i c → List·Memᴰ (c .core) (takers table assignment i)
   unfolding takers takes
-  candidate-taken c h = mem-keep (takes table assignment i) (mem-upFrom 1 (table .cores) (c .core) (h .from-one) (omega (arith, h .on-table))) (meets-on-time (joined table assignment i (c .core)) (within-steady (joined table assignment i (c .core)) (joined-within (c .core))) (h .all-meet))
+  candidate-taken c h = mem-keep (takes table assignment i) (mem-upFrom 1 (table .cores) (c .core) (h .from-one) (omega (arith, h .on-table))) (meets-on-time (joined table assignment i (c .core)) (joined-steady (c .core)) (h .all-meet))
 
   -- a candidate is the one computed at its core
   pub candidate-computed : (c : Candidate) → IsCandidate table assignment i c → candidateAt table assignment i (c .core) ≡ c
@@ -77,7 +76,7 @@ module _
       λ j.
       record {
         core = c .core;
-        allowance = core-allowance-unique (joined table assignment i (c .core)) (coreAllowance (joined table assignment i (c .core))) (c .allowance) (core-allowance-is (joined table assignment i (c .core)) (within-steady (joined table assignment i (c .core)) (joined-within (c .core))) (h .all-meet) (joined-some (c .core))) (h .its-allowance) j;
+        allowance = core-allowance-unique (joined table assignment i (c .core)) (coreAllowance (joined table assignment i (c .core))) (c .allowance) (core-allowance-is (joined table assignment i (c .core)) (joined-steady (c .core)) (h .all-meet) (joined-some (c .core))) (h .its-allowance) j;
       }
 
   module _ (rule : Rule) (is-rule : IsRule rule) where
@@ -96,10 +95,11 @@ module _
             → IsStep rule table assignment i (chosenOf rule (map at ms))
         go [] are every = λ c h. List·Memᴰ·not-nil (every c h)
         go (m ∷ ms) are every =
-            let best = preferred-among rule at m ms in
+            let chosen = none-preferred rule is-rule (at m) (map at ms) in
+            let taker = mem-of-map at (m ∷ ms) (chosen .attained) in
             record {
-              choice = preferred rule (at m) (map at ms);
+              choice = best rule (at m) (map at ms);
               its-core = refl;
-              is-candidate = subst (IsCandidate table assignment i) (best .is) (all-at (λ m. IsCandidate table assignment i (at m)) (best .member) are);
-              none-preferred = λ c h t. all-at (λ n. T (rule (at n) (preferred rule (at m) (map at ms))) → ⊥) (every c h) (none-preferred rule is-rule at m ms) (subst (λ d. T (rule d (preferred rule (at m) (map at ms)))) (sym (candidate-computed c h)) t);
+              is-candidate = subst (IsCandidate table assignment i) (taker .value) (all-at (λ m. IsCandidate table assignment i (at m)) (taker .among) are);
+              none-preferred = λ c h. chosen .over-all c (subst (λ d. List·Memᴰ d (map at (m ∷ ms))) (candidate-computed c h) (mem-map at (every c h)));
             }

@@ -1,12 +1,13 @@
 -- Candidates for a row, and the choice between them. The rule of choice is a parameter of all that follows.
 use mathlib.Core.Path.{_≡_}
 use Prim.Native.Nat.{ℕ, _≤_}
-use mathlib.Core.Bool.{Bool, _&&_, _||_}
+use mathlib.Core.Bool.{Bool}
 use mathlib.Core.Logic.{_⊎_}
 use mathlib.Core.List.{List}
-use lib.Dec.{T, ltb, eqb}
+use lib.Dec.{T}
 use lib.ListN.{set}
 use Rattle.theory.specs.Row.{Row}
+use Rattle.theory.specs.Gather.{lessOrTied}
 use Rattle.theory.specs.Response.{AllMeet}
 use Rattle.theory.specs.Allowance.{IsCoreAllowance}
 use Rattle.placement.specs.Core.{Table, coreRows}
@@ -39,7 +40,7 @@ pub record IsRule (rule : Rule) : Type 0 where
 
 -- Allowance-Fit: the greater core allowance; on a tie, the lower core number
 abbrev pub allowanceFit : Rule
-allowanceFit c d = ltb (d .allowance) (c .allowance) || (eqb (d .allowance) (c .allowance) && ltb (c .core) (d .core))
+allowanceFit c d = lessOrTied (d .allowance) (c .allowance) (c .core) (d .core)
 
 -- row i goes to core m: a candidate to which the rule prefers no other
 pub record IsChosen (rule : Rule) (table : Table) (assignment : List ℕ) (i m : ℕ) : Type 0 where

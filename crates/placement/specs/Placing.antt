@@ -1,10 +1,10 @@
 -- The placement as a computation: its steps, its run, and the certificate that comes out. `proofs/Computed.antt` says that it is the stated one.
 use Prim.Native.Nat.{ℕ}
-use mathlib.Core.Bool.{Bool, true, false}
+use mathlib.Core.Bool.{Bool}
 use mathlib.Core.List.{List, [], _∷_, map}
 use lib.ListN.{length, set, replicate}
 use Rattle.theory.specs.Row.{Row}
-use Rattle.theory.specs.Gather.{upFrom, keep}
+use Rattle.theory.specs.Gather.{upFrom, keep, best}
 use Rattle.theory.specs.Rank.{places}
 use Rattle.theory.specs.Response.{Outcome, responds, misses, outcome, onTime}
 use Rattle.theory.specs.Points.{allowance, coreAllowance}
@@ -25,19 +25,15 @@ candidateAt table assignment i m = record { core = m; allowance = coreAllowance 
 unfoldable pub takers : Table → List ℕ → ℕ → List ℕ
 takers table assignment i = keep (takes table assignment i) (upFrom 1 (table .cores))
 
--- of a candidate in hand and others the one that the rule prefers: a later one replaces the one in hand where the rule prefers it
-unfoldable pub preferred : Rule → Candidate → List Candidate → Candidate
-preferred rule c [] = c
-preferred rule c (d ∷ ds) = elim (rule d c) [ true ↦ preferred rule d ds | false ↦ preferred rule c ds ]
-
 -- what one step of the placement comes to: a core takes the row, or none
 pub data Step : Type 0 where
   toCore : ℕ → Step
   noCore : Step
 
+-- of the candidates, in their order, the one that the rule leaves: a later one takes the place of the one in hand where the rule prefers it
 unfoldable pub chosenOf : Rule → List Candidate → Step
 chosenOf rule [] = noCore
-chosenOf rule (c ∷ cs) = toCore (preferred rule c cs .core)
+chosenOf rule (c ∷ cs) = toCore (best rule c cs .core)
 
 -- the step for row i
 unfoldable pub stepOf : Rule → Table → List ℕ → ℕ → Step

@@ -1,7 +1,7 @@
 -- Demand 3, second half: where all rows are on time, the point formula gives every row its allowance. One theorem carries it: with a more in row i
 -- all rows meet exactly when a is at most the point allowance.
-use mathlib.Core.Path.{_≡_, refl, sym, ap, subst}
-use Prim.Native.Nat.{ℕ, _+_, _*_, _≤_, _<_}
+use mathlib.Core.Path.{_≡_, refl, sym, subst}
+use Prim.Native.Nat.{ℕ, _≤_, _<_}
 use mathlib.Core.Bool.{Bool, true, false}
 use mathlib.Core.Logic.{_↔_}
 use mathlib.Core.List.{List, List·Memᴰ}

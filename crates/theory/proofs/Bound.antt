@@ -1,100 +1,37 @@
 -- Bounds and point allowances: the computed ones are the stated ones, they are unique, and a number is at most a bound exactly when some point
 -- has room for it.
-use mathlib.Core.Path.{_≡_, refl, sym, ap, subst}
-use Prim.Native.Nat.{ℕ, _+_, _*_, _≤_, _<_, zero-le}
+use mathlib.Core.Path.{_≡_, refl, sym, subst}
+use Prim.Native.Nat.{ℕ, _+_, _*_, _≤_, _<_}
 use mathlib.Core.Bool.{Bool, true, false}
-use mathlib.Core.Logic.{_↔_, _⊎_, inl, inr, ⊎-elim}
-use mathlib.Core.List.{List, [], _∷_, map, List·Memᴰ, List·Memᴰ·head, List·Memᴰ·tail, List·Memᴰ·cases-cons}
+use mathlib.Core.Logic.{_↔_}
+use mathlib.Core.List.{List, map, List·Memᴰ}
 use native.Mathlib.Omega.{arith}
 use lib.Dec.{T, eqb, eqb-refl}
 use lib.IntN.{ℤ, pos}
 use lib.ListN.{length}
 use lib.Signed.{leZ, _≤ℤ_, ≤ℤ-refl}
 use Rattle.theory.specs.Row.{Row, rowAt}
-use Rattle.theory.specs.Gather.{best, keep}
+use Rattle.theory.specs.Gather.{keep}
 use Rattle.theory.specs.Rank.{places, rival, levels}
-use Rattle.theory.specs.Response.{ceil, load}
+use Rattle.theory.specs.Response.{load}
 use Rattle.theory.specs.Points.{points, slack, times, quotient, greatestOf, smallestOf, touches, IsBound, IsPointAllowance, bound, pointAllowance}
 use Rattle.theory.proofs.Tests.{or-first}
-use Rattle.theory.proofs.Each.{keep-passes, all-keep, all-upFrom, all-map}
-use Rattle.theory.proofs.Member.{all-at, mem-keep, mem-upFrom}
+use Rattle.theory.proofs.Each.{all-kept}
+use Rattle.theory.proofs.Member.{all-at, mem-keep, ValueOf, mem-of-map, mem-map}
+use Rattle.theory.proofs.Best.{Best, best-of-others}
+use Rattle.theory.proofs.Places.{places-inside, mem-places}
 use Rattle.theory.proofs.Ceil.{ceil-positive}
 use Rattle.theory.proofs.Walk.{walk-start, walk-positive}
 use Rattle.theory.proofs.Signed.{≤ℤ-trans, ≤ℤ-antisymm, leZ-fails, leZ-passes, quotient-covers}
 use Rattle.theory.proofs.Verdict.{AllSteady}
 
--- one of a list of values, with the number that it is the value of
-pub record ValueOf {A : Type 0} (f : ℕ → A) (xs : List ℕ) (y : A) : Type 0 where
-  pub at : ℕ
-  pub among : List·Memᴰ at xs
-  pub value : f at ≡ y
+-- the greatest of a first number and others, the first among them
+greatest-is : (first : ℤ) (others : List ℤ) → List·Memᴰ first others → Best _≤ℤ_ others (greatestOf first others)
+greatest-is = best-of-others (λ next first. leZ first next) _≤ℤ_ ≤ℤ-refl (λ y next z e h. ≤ℤ-trans y z next h (leZ-passes z next e)) (λ next z. leZ-fails z next)
 
-pub mem-of-map : {A : Type 0} (f : ℕ → A) (xs : List ℕ) (y : A) → List·Memᴰ y (map f xs) → ValueOf f xs y
-mem-of-map f [] y m = elim m [ ]
-mem-of-map f (x ∷ xs) y m = go (mem-of-map f xs y) (List·Memᴰ·cases-cons m)
-  where
-    go : (List·Memᴰ y (map f xs) → ValueOf f xs y) → (y ≡ f x) ⊎ List·Memᴰ y (map f xs) → ValueOf f (x ∷ xs) y
-    go further (inl e) = record { at = x; among = List·Memᴰ·head refl; value = sym e }
-    go further (inr n) = let v : ValueOf f xs y = further n in record { at = v .at; among = List·Memᴰ·tail (v .among); value = v .value }
-
-pub mem-map : {A : Type 0} (f : ℕ → A) {x : ℕ} {xs : List ℕ} → List·Memᴰ x xs → List·Memᴰ (f x) (map f xs)
-mem-map f (List·Memᴰ·head e) = List·Memᴰ·head (ap f e)
-mem-map f (List·Memᴰ·tail m) = List·Memᴰ·tail (mem-map f m)
-
--- The best of a first and others, where `Under y z` says that z is at least as good as y.
-module _ {A : Type 0} (better : A → A → Bool) (Under : A → A → Type 0)
-    (reflexive : (z : A) → Under z z)
-    (transitive : (x y z : A) → Under x y → Under y z → Under x z)
-    (passes : (y z : A) → better y z ≡ true → Under z y)
-    (fails : (y z : A) → better y z ≡ false → Under y z) where
-  -- e is one of them, and as good as each
-  pub record Best (first : A) (others : List A) (e : A) : Type 0 where
-    pub attained : List·Memᴰ e (first ∷ others)
-    pub over-all : (y : A) → List·Memᴰ y (first ∷ others) → Under y e
-
-  pub best-is : (first : A) (others : List A) → Best first others (best better first others)
-  unfolding best
-  best-is first [] = record {
-    attained = List·Memᴰ·head refl;
-    over-all = λ y m. ⊎-elim (λ e. subst (λ (x : A). Under x first) (sym e) (reflexive first)) (λ n. elim n [ ]) (List·Memᴰ·cases-cons m);
-  }
-  best-is first (next ∷ others) = go (better next first) refl (best-is next others) (best-is first others)
-    where
-      go : (b : Bool) → better next first ≡ b → Best next others (best better next others) → Best first others (best better first others)
-          → Best first (next ∷ others) (elim b [ true ↦ best better next others | false ↦ best better first others ])
-      go true e taken kept = record {
-        attained = List·Memᴰ·tail (taken .attained);
-        over-all = λ y m.
-            ⊎-elim
-            (λ f. subst (λ (x : A). Under x (best better next others)) (sym f) (transitive first next (best better next others) (passes next first e) (taken .over-all next (List·Memᴰ·head refl))))
-            (taken .over-all y)
-            (List·Memᴰ·cases-cons m);
-      }
-      go false e taken kept = record {
-        attained = ⊎-elim (λ f. List·Memᴰ·head f) (λ n. List·Memᴰ·tail (List·Memᴰ·tail n)) (List·Memᴰ·cases-cons (kept .attained));
-        over-all = λ y m.
-            ⊎-elim
-            (λ f. kept .over-all y (List·Memᴰ·head f))
-            (λ n.
-            ⊎-elim
-            (λ f. subst (λ (x : A). Under x (best better first others)) (sym f) (transitive next first (best better first others) (fails next first e) (kept .over-all first (List·Memᴰ·head refl))))
-            (λ o. kept .over-all y (List·Memᴰ·tail o))
-            (List·Memᴰ·cases-cons n))
-            (List·Memᴰ·cases-cons m);
-      }
-
-abbrev Greatest : ℤ → List ℤ → ℤ → Type 0
-Greatest = Best (λ next first. leZ first next) (λ y z. y ≤ℤ z) ≤ℤ-refl ≤ℤ-trans (λ y z. leZ-passes z y) (λ y z. leZ-fails z y)
-
-greatest-is : (first : ℤ) (others : List ℤ) → Greatest first others (greatestOf first others)
-greatest-is = best-is (λ next first. leZ first next) (λ y z. y ≤ℤ z) ≤ℤ-refl ≤ℤ-trans (λ y z. leZ-passes z y) (λ y z. leZ-fails z y)
-
-abbrev pub Smallest : ℤ → List ℤ → ℤ → Type 0
-Smallest = Best (λ next first. leZ next first) (λ y z. z ≤ℤ y) ≤ℤ-refl (λ x y z h k. ≤ℤ-trans z y x k h) (λ y z. leZ-passes y z) (λ y z. leZ-fails y z)
-
-pub smallest-is : (first : ℤ) (others : List ℤ) → Smallest first others (smallestOf first others)
-smallest-is =
-    best-is (λ next first. leZ next first) (λ y z. z ≤ℤ y) ≤ℤ-refl (λ x y z h k. ≤ℤ-trans z y x k h) (λ y z. leZ-passes y z) (λ y z. leZ-fails y z)
+-- the smallest of a first number and others, the first among them
+pub smallest-is : (first : ℤ) (others : List ℤ) → List·Memᴰ first others → Best (λ y z. z ≤ℤ y) others (smallestOf first others)
+smallest-is = best-of-others (λ next first. leZ next first) (λ y z. z ≤ℤ y) ≤ℤ-refl (λ y next z e h. ≤ℤ-trans next z y (leZ-passes next z e) h) leZ-fails
 
 module _ (rows : List Row) where
   -- the computed bound is the stated one
@@ -102,20 +39,16 @@ module _ (rows : List Row) where
   unfolding bound points
   bound-is k i =
       let at-deadline : List·Memᴰ (rowAt rows k .D) (points rows k) = walk-start (levels rows k) (length (levels rows k)) (rowAt rows k .D) in
-      let g : Greatest (quotient rows k i (rowAt rows k .D)) (map (quotient rows k i) (points rows k)) (bound rows k i) =
-      greatest-is (quotient rows k i (rowAt rows k .D)) (map (quotient rows k i) (points rows k)) in
-      let v : ValueOf (quotient rows k i) (points rows k) (bound rows k i) =
-      ⊎-elim
-      (λ e. record { at = rowAt rows k .D; among = at-deadline; value = sym e })
-      (mem-of-map (quotient rows k i) (points rows k) (bound rows k i))
-      (List·Memᴰ·cases-cons (g .attained)) in
+      let g = greatest-is (quotient rows k i (rowAt rows k .D)) (map (quotient rows k i) (points rows k)) (mem-map (quotient rows k i) at-deadline) in
+      let v : ValueOf (quotient rows k i) (points rows k) (bound rows k i) = mem-of-map (quotient rows k i) (points rows k) (g .attained) in
       record {
         point = v .at;
         among-points = v .among;
         its-quotient = v .value;
-        greatest = λ p m. g .over-all (quotient rows k i p) (List·Memᴰ·tail (mem-map (quotient rows k i) m));
+        greatest = λ p m. g .over-all (quotient rows k i p) (mem-map (quotient rows k i) m);
       }
 
+  -- a bound is unique
   pub bound-unique : (k i : ℕ) (b c : ℤ) → IsBound rows k i b → IsBound rows k i c → b ≡ c
   bound-unique k i b c p q = ≤ℤ-antisymm b c (below b c p q) (below c b q p)
     where
@@ -126,28 +59,23 @@ module _ (rows : List Row) where
   pub point-allowance-is : (i : ℕ) → i < length rows → IsPointAllowance rows i (pointAllowance rows i)
   unfolding pointAllowance
   point-allowance-is i inside =
+      let of-row : ℕ → ℤ = λ k. bound rows k i in
       let touched-rows = keep (touches rows i) (places rows) in
-      let s : Smallest (bound rows i i) (map (λ k. bound rows k i) touched-rows) (pointAllowance rows i) =
-      smallest-is (bound rows i i) (map (λ k. bound rows k i) touched-rows) in
-      let v : ValueOf (λ k. bound rows k i) touched-rows (pointAllowance rows i) =
-      ⊎-elim
-      (λ e. record {
-        at = i;
-        among = mem-keep (touches rows i) (mem-upFrom 0 (length rows) i zero-le (omega arith)) (or-first (eqb i i) (rival rows i i) (eqb-refl i));
-        value = sym e;
-      })
-      (mem-of-map (λ k. bound rows k i) touched-rows (pointAllowance rows i))
-      (List·Memᴰ·cases-cons (s .attained)) in
+      let itself = mem-keep (touches rows i) (mem-places rows i inside) (or-first (eqb i i) (rival rows i i) (eqb-refl i)) in
+      let s = smallest-is (bound rows i i) (map of-row touched-rows) (mem-map of-row itself) in
+      let v : ValueOf of-row touched-rows (pointAllowance rows i) = mem-of-map of-row touched-rows (s .attained) in
+      let touched = all-at (λ k. (k < length rows) × T (touches rows i k)) (v .among) (all-kept (λ k. k < length rows) (touches rows i) (places rows) (places-inside rows)) in
       record {
         row = v .at;
-        in-set = all-at (λ k. k < length rows) (v .among) (all-keep (λ k. k < length rows) (touches rows i) (places rows) (all-map (places rows) (λ k b. omega arith) (all-upFrom 0 (length rows))));
-        touched = all-at (λ k. T (touches rows i k)) (v .among) (keep-passes (touches rows i) (places rows));
+        in-set = touched .0;
+        touched = touched .1;
         its-bound = subst (IsBound rows (v .at) i) (v .value) (bound-is (v .at) i);
         smallest = λ k b in-set t is-bound.
             subst (λ (z : ℤ). pointAllowance rows i ≤ℤ z) (bound-unique k i (bound rows k i) b (bound-is k i) is-bound)
-            (s .over-all (bound rows k i) (List·Memᴰ·tail (mem-map (λ h. bound rows h i) (mem-keep (touches rows i) (mem-upFrom 0 (length rows) k zero-le (omega arith)) t))));
+            (s .over-all (bound rows k i) (mem-map of-row (mem-keep (touches rows i) (mem-places rows k in-set) t)));
       }
 
+  -- a point allowance is unique
   pub point-allowance-unique : (i : ℕ) (a b : ℤ) → IsPointAllowance rows i a → IsPointAllowance rows i b → a ≡ b
   point-allowance-unique i a b p q =
       ≤ℤ-antisymm a b (p .smallest (q .row) b (q .in-set) (q .touched) (q .its-bound)) (q .smallest (p .row) a (p .in-set) (p .touched) (p .its-bound))

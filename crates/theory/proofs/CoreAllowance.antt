@@ -1,9 +1,7 @@
 -- The allowance of a core, computed and stated, and whether all rows of a set meet, computed and stated.
 use mathlib.Core.Path.{_≡_, sym, _∙_, subst}
-use Prim.Native.Nat.{ℕ, _+_, _≤_, _<_, zero-le}
-use mathlib.Core.Logic.{⊎-elim}
-use mathlib.Core.List.{List, map, List·Memᴰ, List·Memᴰ·tail, List·Memᴰ·cases-cons}
-use native.Mathlib.Omega.{arith}
+use Prim.Native.Nat.{ℕ, _<_}
+use mathlib.Core.List.{List, map}
 use native.Mathlib.Nat.{le-antisymm}
 use lib.Dec.{T}
 use lib.IntN.{ℤ, pos, natAbs}
@@ -14,12 +12,14 @@ use Rattle.theory.specs.Rank.{places}
 use Rattle.theory.specs.Response.{Meets, AllMeet, Outcome, responds, misses, IsOutcome, inTime, outcome, onTime}
 use Rattle.theory.specs.Allowance.{IsCoreAllowance}
 use Rattle.theory.specs.Points.{pointAllowance, smallestOf, coreAllowance, IsPointAllowance}
-use Rattle.theory.proofs.Each.{all-every, every-all, all-upFrom}
-use Rattle.theory.proofs.Member.{all-at, all-from, mem-upFrom}
+use Rattle.theory.proofs.Each.{all-every, every-all}
+use Rattle.theory.proofs.Member.{all-at, all-from, ValueOf, mem-of-map, mem-map}
+use Rattle.theory.proofs.Best.{Best}
+use Rattle.theory.proofs.Places.{mem-places, place-inside}
 use Rattle.theory.proofs.Signed.{le-pos}
 use Rattle.theory.proofs.Response.{outcome-right}
 use Rattle.theory.proofs.Verdict.{AllSteady}
-use Rattle.theory.proofs.Bound.{ValueOf, mem-of-map, mem-map, smallest-is, point-allowance-is, point-allowance-unique}
+use Rattle.theory.proofs.Bound.{smallest-is, point-allowance-is, point-allowance-unique}
 use Rattle.theory.proofs.Allowance.{allowance-of-points, points-of-allowance, not-negative}
 
 -- a core's allowance is unique
@@ -27,18 +27,13 @@ pub core-allowance-unique : (rows : List Row) (a b : ℕ) → IsCoreAllowance ro
 core-allowance-unique rows a b p q =
     le-antisymm (p .smallest (q .row) b (q .in-set) (q .its-allowance)) (q .smallest (p .row) a (p .in-set) (p .its-allowance))
 
-pub place-inside : (rows : List Row) (k : ℕ) → List·Memᴰ k (places rows) → k < length rows
-place-inside rows k m =
-    let b : (0 ≤ k) × (k < 0 + length rows) = all-at (λ h. (0 ≤ h) × (h < 0 + length rows)) m (all-upFrom 0 (length rows)) in
-    omega arith
-
 module _ (rows : List Row) (steady : AllSteady rows) where
   -- whether all rows meet, computed, is whether all rows meet
   pub on-time-meets : T (onTime rows) → AllMeet rows
   unfolding onTime
   on-time-meets t k inside =
       go (outcome rows k) (outcome-right rows k (steady k inside .runs))
-      (all-at (λ h. T (inTime (outcome rows h))) (mem-upFrom 0 (length rows) k zero-le (omega arith)) (every-all (λ h. inTime (outcome rows h)) (places rows) t))
+      (all-at (λ h. T (inTime (outcome rows h))) (mem-places rows k inside) (every-all (λ h. inTime (outcome rows h)) (places rows) t))
     where
       go : (o : Outcome) → IsOutcome rows k o → T (inTime o) → Meets rows k
       go (responds R) is t = record { response = R; is-response = is .0; by-deadline = is .1 }
@@ -59,13 +54,12 @@ module _ (rows : List Row) (steady : AllSteady rows) where
     z : ℤ
     z = smallestOf (pointAllowance rows 0) (map (pointAllowance rows) (places rows))
 
-    attained : ValueOf (pointAllowance rows) (places rows) z
+    smallest : Best (λ x y. y ≤ℤ x) (map (pointAllowance rows) (places rows)) z
     unfolding z
-    attained =
-        ⊎-elim
-        (λ e. record { at = 0; among = mem-upFrom 0 (length rows) 0 zero-le (omega arith); value = sym e })
-        (mem-of-map (pointAllowance rows) (places rows) z)
-        (List·Memᴰ·cases-cons (smallest-is (pointAllowance rows 0) (map (pointAllowance rows) (places rows)) .attained))
+    smallest = smallest-is (pointAllowance rows 0) (map (pointAllowance rows) (places rows)) (mem-map (pointAllowance rows) (mem-places rows 0 some))
+
+    attained : ValueOf (pointAllowance rows) (places rows) z
+    attained = mem-of-map (pointAllowance rows) (places rows) (smallest .attained)
 
     in-set : attained .at < length rows
     in-set = place-inside rows (attained .at) (attained .among)
@@ -88,5 +82,5 @@ module _ (rows : List Row) (steady : AllSteady rows) where
           le-pos (natAbs z) b
           (subst (λ (y : ℤ). y ≤ℤ pos b) (sym sign)
           (subst (λ (y : ℤ). z ≤ℤ y) (point-allowance-unique rows i (pointAllowance rows i) (pos b) (point-allowance-is rows i inside) (points-of-allowance rows steady i inside all b is-b))
-          (smallest-is (pointAllowance rows 0) (map (pointAllowance rows) (places rows)) .over-all (pointAllowance rows i) (List·Memᴰ·tail (mem-map (pointAllowance rows) (mem-upFrom 0 (length rows) i zero-le (omega arith)))))));
+          (smallest .over-all (pointAllowance rows i) (mem-map (pointAllowance rows) (mem-places rows i inside)))));
     }

@@ -2,13 +2,13 @@
 use mathlib.Core.Path.{_≡_, refl}
 use Prim.Native.Nat.{ℕ, zero, suc, _+_, _*_, _≤_, _<_}
 use mathlib.Core.List.{List, [], _∷_, map}
-use native.Mathlib.Nat.{mul-le-mul-right, add-mul, suc-mul, zero-mul, le-refl, le-trans}
+use native.Mathlib.Nat.{mul-le-mul-right, add-mul, suc-mul, zero-mul, le-refl}
 use native.Mathlib.Omega.{arith}
 use lib.ListN.{length, getD, take}
 use Rattle.theory.specs.Row.{Row, rowAt}
 use Rattle.theory.specs.Gather.{sum}
 use Rattle.theory.specs.Rank.{rivals}
-use Rattle.theory.specs.Response.{ceil, demand, load, own}
+use Rattle.theory.specs.Response.{ceil, demand, load}
 use Rattle.theory.proofs.Ceil.{ceil-mono, ceil-subadditive}
 
 -- what one row asks for up to t

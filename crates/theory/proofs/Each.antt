@@ -2,10 +2,11 @@
 use mathlib.Core.Path.{_≡_, refl, sym, subst}
 use Prim.Native.Nat.{ℕ, zero, suc, _+_, _≤_, _<_}
 use native.Mathlib.Omega.{arith}
-use mathlib.Core.Bool.{Bool, true, false, _&&_}
+use mathlib.Core.Bool.{Bool, true, false}
 use mathlib.Core.List.{List, [], _∷_, _++_}
 use lib.Dec.{T}
 use Rattle.theory.specs.Gather.{upFrom, keep, every, insert, sort}
+use Rattle.theory.proofs.Tests.{and-both, and-first, and-second}
 
 -- P holds of each of a list
 abbrev pub All : (ℕ → Type 0) → List ℕ → Type 0
@@ -77,6 +78,10 @@ unfolding keep
 keep-passes test [] = tt
 keep-passes test (x ∷ xs) = keep-cases (All (λ x. T (test x))) test x xs (λ e. (T-true (test x) e, keep-passes test xs)) (λ e. keep-passes test xs)
 
+-- each: each of the kept, which passes
+pub all-kept : (P : ℕ → Type 0) (test : ℕ → Bool) (xs : List ℕ) → All P xs → All (λ x. P x × T (test x)) (keep test xs)
+all-kept P test xs h = all-both P (λ x. T (test x)) (keep test xs) (all-keep P test xs h) (keep-passes test xs)
+
 -- the one put in, and each: each of the new list
 pub all-insert : (P : ℕ → Type 0) (precedes : ℕ → ℕ → Bool) (x : ℕ) (xs : List ℕ) → P x → All P xs → All P (insert precedes x xs)
 unfolding insert
@@ -99,21 +104,13 @@ all-upFrom i (suc n) = (omega arith, all-map (upFrom (suc i) n) (λ x h. omega a
 pub every-all : (test : ℕ → Bool) (xs : List ℕ) → T (every test xs) → All (λ x. T (test x)) xs
 unfolding every
 every-all test [] h = tt
-every-all test (x ∷ xs) h = (both (test x) (every test xs) h .0, every-all test xs (both (test x) (every test xs) h .1))
-  where
-    both : (a b : Bool) → T (a && b) → T a × T b
-    both true b h = (tt, h)
-    both false b h = absurd h
+every-all test (x ∷ xs) h = (and-first (test x) (every test xs) h, every-all test xs (and-second (test x) (every test xs) h))
 
 -- the test passes at each: the test of all passes
 pub all-every : (test : ℕ → Bool) (xs : List ℕ) → All (λ x. T (test x)) xs → T (every test xs)
 unfolding every
 all-every test [] h = tt
-all-every test (x ∷ xs) h = both (test x) (every test xs) (h .0) (all-every test xs (h .1))
-  where
-    both : (a b : Bool) → T a → T b → T (a && b)
-    both true b p q = q
-    both false b p q = p
+all-every test (x ∷ xs) h = and-both (test x) (every test xs) (h .0) (all-every test xs (h .1))
 
 -- each of the joined list: each of the two
 pub all-append-split : (P : ℕ → Type 0) (xs ys : List ℕ) → All P (xs ++ ys) → All P xs × All P ys

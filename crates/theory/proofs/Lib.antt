@@ -2,8 +2,10 @@
 pub mod Tests
 pub mod Each
 pub mod Member
-pub mod Sum
+pub mod Best
+pub mod Places
 pub mod Order
+pub mod Sum
 pub mod Limits
 pub mod Ceil
 pub mod Demand

@@ -6,8 +6,8 @@ use mathlib.Core.Logic.{_↔_, _⊎_, inl, inr, ⊎-elim}
 use mathlib.Core.List.{List}
 use native.Mathlib.Omega.{arith}
 use native.Mathlib.Nat.{le-antisymm}
-use borrow.Author.Tests.{eqb-true, eqb-false, leb-true, leb-false}
-use lib.Dec.{eqb, leb}
+use borrow.Author.Tests.{leb-true, leb-false}
+use lib.Dec.{leb}
 use lib.IntN.{pos, natAbs}
 use lib.ListN.{length, getD}
 use lib.Seq.{ext-getD}
@@ -18,6 +18,7 @@ use Rattle.theory.specs.Response.{AllMeet, FirstMiss, IsResponse}
 use Rattle.theory.specs.Allowance.{IsAllowance}
 use Rattle.theory.specs.Points.{IsPointAllowance}
 use Rattle.theory.specs.Lists.{rowsOf, ForEach, filled, Answered, rows-out-of-range, row-breaks-limits, output-too-short, row-misses, accepted, SetAnswered, PointAnswered}
+use Rattle.theory.proofs.Tests.{equal-or-not}
 use Rattle.theory.proofs.Response.{response-unique}
 use Rattle.theory.proofs.Rank.{above-connected}
 use Rattle.theory.proofs.Bound.{point-allowance-unique}
@@ -26,13 +27,10 @@ use Rattle.theory.proofs.Allowance.{allowance-unique, allowance-of-poin
 
 -- of the rows that miss, one is the highest in rank
 pub first-miss-unique : (rows : List Row) (h k : ℕ) → FirstMiss rows h → FirstMiss rows k → h ≡ k
-first-miss-unique rows h k p q = go (eqb h k) refl
-  where
-    go : (b : Bool) → eqb h k ≡ b → h ≡ k
-    go true e = eqb-true h k e
-    go false e =
-        absurd
-        (⊎-elim (λ t. p .misses (q .above-meet h (p .in-set) t)) (λ t. q .misses (p .above-meet k (q .in-set) t)) (above-connected rows h k (eqb-false h k e)))
+first-miss-unique rows h k p q =
+    ⊎-elim (λ e. e)
+    (λ d. absurd (⊎-elim (λ t. p .misses (q .above-meet h (p .in-set) t)) (λ t. q .misses (p .above-meet k (q .in-set) t)) (above-connected rows h k d)))
+    (equal-or-not h k)
 
 -- of the rows that break the limits, one is the first
 pub first-broken-unique : (rows : List Row) (h k : ℕ) → FirstBroken rows h → FirstBroken rows k → h ≡ k

@@ -3,11 +3,12 @@ use mathlib.Core.Path.{_≡_, refl, sym, ap, _∙_, subst}
 use Prim.Native.Nat.{ℕ, zero, suc, _+_, _≤_, _<_}
 use native.Mathlib.Omega.{arith}
 use mathlib.Core.Bool.{Bool, true, false}
+use mathlib.Core.Logic.{⊎-elim}
 use mathlib.Core.List.{List, [], _∷_, map, List·Memᴰ, List·Memᴰ·head, List·Memᴰ·tail}
-use lib.Dec.{T, eqb}
+use lib.Dec.{T}
 use lib.ListN.{length, getD}
-use borrow.Author.Tests.{eqb-true, eqb-false}
 use Rattle.theory.specs.Gather.{upFrom, keep, insert, sort}
+use Rattle.theory.proofs.Tests.{equal-or-not}
 use Rattle.theory.proofs.Each.{All, keep-cases, insert-cases, T-false, all-keep, all-sort}
 
 -- each: each member
@@ -19,6 +20,22 @@ all-at P (List·Memᴰ·tail m) h = all-at P m (h .1)
 pub all-from : {P : ℕ → Type 0} (xs : List ℕ) → ((x : ℕ) → List·Memᴰ x xs → P x) → All P xs
 all-from [] f = tt
 all-from (x ∷ xs) f = (f x (List·Memᴰ·head refl), all-from xs (λ y m. f y (List·Memᴰ·tail m)))
+
+-- a value of a function at a member is one of its values
+pub mem-map : {A : Type 0} (f : ℕ → A) {x : ℕ} {xs : List ℕ} → List·Memᴰ x xs → List·Memᴰ (f x) (map f xs)
+mem-map f (List·Memᴰ·head e) = List·Memᴰ·head (ap f e)
+mem-map f (List·Memᴰ·tail m) = List·Memᴰ·tail (mem-map f m)
+
+-- one of a list of values, with the number that it is the value of
+pub record ValueOf {A : Type 0} (f : ℕ → A) (xs : List ℕ) (y : A) : Type 0 where
+  pub at : ℕ
+  pub among : List·Memᴰ at xs
+  pub value : f at ≡ y
+
+-- each of a function's values is its value at a member
+pub mem-of-map : {A : Type 0} (f : ℕ → A) (xs : List ℕ) {y : A} → List·Memᴰ y (map f xs) → ValueOf f xs y
+mem-of-map f (x ∷ xs) (List·Memᴰ·head e) = record { at = x; among = List·Memᴰ·head refl; value = sym e }
+mem-of-map f (x ∷ xs) (List·Memᴰ·tail m) = let v = mem-of-map f xs m in record { at = v .at; among = List·Memᴰ·tail (v .among); value = v .value }
 
 -- a member that passes is kept
 pub mem-keep : (test : ℕ → Bool) {x : ℕ} {xs : List ℕ} → List·Memᴰ x xs → T (test x) → List·Memᴰ x (keep test xs)
@@ -53,11 +70,7 @@ mem-of-sort precedes xs m = all-at (λ y. List·Memᴰ y xs) m (all-sort (λ y. 
 pub mem-upFrom : (i n x : ℕ) → i ≤ x → x < i + n → List·Memᴰ x (upFrom i n)
 unfolding upFrom
 mem-upFrom i zero x low high = absurd (omega arith)
-mem-upFrom i (suc n) x low high = go (eqb x i) refl (mem-upFrom (suc i) n x)
-  where
-    go : (b : Bool) → eqb x i ≡ b → (suc i ≤ x → x < suc i + n → List·Memᴰ x (upFrom (suc i) n)) → List·Memᴰ x (i ∷ upFrom (suc i) n)
-    go true e f = List·Memᴰ·head (eqb-true x i e)
-    go false e f = List·Memᴰ·tail (f (omega (arith, eqb-false x i e)) (omega arith))
+mem-upFrom i (suc n) x low high = ⊎-elim List·Memᴰ·head (λ d. List·Memᴰ·tail (mem-upFrom (suc i) n x (omega arith) (omega arith))) (equal-or-not x i)
 
 -- what stands at a place of a list is one of it
 pub mem-getD : (xs : List ℕ) (j : ℕ) → j < length xs → List·Memᴰ (getD xs j 0) xs

@@ -1,68 +1,27 @@
 -- What raising row i by a does to row k: its points stay, and its load at t grows by a for each time that it counts C of row i.
 use mathlib.Core.Path.{_≡_, refl, sym, _∙_, ap, fun-ext, subst}
-use Prim.Native.Nat.{ℕ, zero, suc, _+_, _*_, _≤_, _<_}
+use Prim.Native.Nat.{ℕ, zero, suc, _+_, _*_, _<_}
 use mathlib.Core.Bool.{Bool, true, false}
 use mathlib.Core.Logic.{_⊎_, inl, inr, ⊎-elim}
-use mathlib.Core.List.{List, [], _∷_, _++_, map, List·Memᴰ, List·Memᴰ·head, List·Memᴰ·tail}
+use mathlib.Core.List.{List, [], _∷_, map}
 use native.Mathlib.Omega.{arith}
 use native.Mathlib.Nat.{mul-add, mul-comm, mul-zero, mul-one}
-use borrow.Author.Tests.{eqb-true, eqb-false, eq-eqb, ne-eqb}
-use lib.Dec.{T, ltb, eqb}
-use lib.ListN.{length, getD, set, length-set, length-map}
+use borrow.Author.Tests.{eqb-true, eqb-false, eq-eqb}
+use lib.Dec.{T, eqb}
+use lib.ListN.{length, length-set, length-map}
 use lib.Seq.{getD-set-same, getD-set-other}
 use Rattle.theory.specs.Row.{Row, rowAt}
 use Rattle.theory.specs.Gather.{lessOrTied, sum, keep, sort, upFrom}
 use Rattle.theory.specs.Rank.{places, above, rival, rivals, levels}
 use Rattle.theory.specs.Response.{ceil, own, demand, load}
 use Rattle.theory.specs.Allowance.{longer, raised}
-use Rattle.theory.specs.Points.{lastMultiple, walk, points, times, touches}
-use Rattle.theory.proofs.Each.{All, all-map, true-of, T-true, T-false}
-use Rattle.theory.proofs.Member.{all-at}
-use Rattle.theory.proofs.Order.{Ordered, upFrom-ascending, ordered-keep, ordered-map}
+use Rattle.theory.specs.Points.{walk, points, times, touches}
+use Rattle.theory.proofs.Each.{all-map, T-true, T-false}
+use Rattle.theory.proofs.Sum.{only, only-there, only-elsewhere, sum-without, sum-with}
+use Rattle.theory.proofs.Walk.{walk-by-periods}
 use Rattle.theory.proofs.Demand.{ask}
-use Rattle.theory.proofs.Tests.{or-cases, or-first, or-second}
-use Rattle.theory.proofs.Rank.{rival-irreflexive, mem-rivals, all-rivals}
-
--- x where h is i, else 0
-unfoldable pub only : ℕ → ℕ → ℕ → ℕ
-only i x h = elim (eqb h i) [ true ↦ x | false ↦ 0 ]
-
-pub only-there : (i x h : ℕ) → h ≡ i → only i x h ≡ x
-unfolding only
-only-there i x h e = rw (eq-eqb h i e, only)
-
-pub only-elsewhere : (i x h : ℕ) → (h ≡ i → ⊥) → only i x h ≡ 0
-unfolding only
-only-elsewhere i x h d = rw (ne-eqb h i d, only)
-
--- a sum over a list without i
-sum-without : (i x : ℕ) (xs : List ℕ) → All (λ h. h ≡ i → ⊥) xs → sum (only i x) xs ≡ 0
-unfolding sum
-sum-without i x [] h = refl
-sum-without i x (y ∷ ys) h = omega (arith, only-elsewhere i x y (h .0), sum-without i x ys (h .1))
-
--- a sum over a list with i in it once
-pub sum-with : (i x : ℕ) {xs : List ℕ} → List·Memᴰ i xs → Ordered _<_ xs → sum (only i x) xs ≡ x
-unfolding sum
-sum-with i x (List·Memᴰ·head {x = y} {xs = ys} e) o =
-    omega (arith, only-there i x y (sym e), sum-without i x ys (all-map ys (λ z l f. omega arith) (o .0)))
-sum-with i x (List·Memᴰ·tail {x = y} {xs = ys} m) o =
-    let before : y < i = all-at (λ z. y < z) m (o .0) in
-    omega (arith, only-elsewhere i x y (λ e. omega arith), sum-with i x m (o .1))
-
--- one level of the walk over what the level below yields
-one-level : (ℕ → List ℕ) → ℕ → ℕ → List ℕ
-one-level below period t =
-    let s = lastMultiple period t in
-    elim (eqb s t) [ true ↦ below t | false ↦ elim (ltb 0 s) [ true ↦ below s ++ below t | false ↦ below t ] ]
-
--- the walk goes by periods alone
-walk-by-periods : (gs hs : List Row) → ((j : ℕ) → rowAt gs j .T ≡ rowAt hs j .T) → (j t : ℕ) → walk gs j t ≡ walk hs j t
-unfolding walk one-level
-walk-by-periods gs hs same zero t = refl
-walk-by-periods gs hs same (suc j) t =
-    ap (λ (below : ℕ → List ℕ). one-level below (rowAt gs j .T) t) (fun-ext (walk-by-periods gs hs same j))
-    ∙ ap (λ (period : ℕ). one-level (walk hs j) period t) (same j)
+use Rattle.theory.proofs.Tests.{or-cases, or-first, or-second, equal-or-not}
+use Rattle.theory.proofs.Rank.{rival-irreflexive, mem-rivals, all-rivals, rivals-ascending}
 
 module _ (rows : List Row) (i a : ℕ) (inside : i < length rows) where
   abbrev after : List Row
@@ -70,19 +29,19 @@ module _ (rows : List Row) (i a : ℕ) (inside : i < length rows) where
 
   -- row i is longer by a, and no other row by anything
   pub raised-row : (h : ℕ) → rowAt after h ≡ longer (rowAt rows h) (only i a h)
-  raised-row h = go (eqb h i) refl
+  raised-row h = ⊎-elim there elsewhere (equal-or-not h i)
     where
-      go : (b : Bool) → eqb h i ≡ b → rowAt after h ≡ longer (rowAt rows h) (only i a h)
-      go true e =
-          let there : h ≡ i = eqb-true h i e in
-          ap (λ (x : ℕ). rowAt after x) there
+      there : h ≡ i → rowAt after h ≡ longer (rowAt rows h) (only i a h)
+      there e =
+          ap (λ (x : ℕ). rowAt after x) e
           ∙ getD-set-same rows i (longer (rowAt rows i) a) (record { C = 0; D = 0; T = 0 }) inside
-          ∙ ap (λ (x : ℕ). longer (rowAt rows x) a) (sym there)
-          ∙ ap (longer (rowAt rows h)) (sym (only-there i a h there))
-      go false e =
-          let elsewhere : h ≡ i → ⊥ = eqb-false h i e in
-          getD-set-other rows i h (longer (rowAt rows i) a) (record { C = 0; D = 0; T = 0 }) elsewhere
-          ∙ ap (λ (c : ℕ). record { C = c; D = rowAt rows h .D; T = rowAt rows h .T }) (omega (arith, only-elsewhere i a h elsewhere))
+          ∙ ap (λ (x : ℕ). longer (rowAt rows x) a) (sym e)
+          ∙ ap (longer (rowAt rows h)) (sym (only-there i a h e))
+
+      elsewhere : (h ≡ i → ⊥) → rowAt after h ≡ longer (rowAt rows h) (only i a h)
+      elsewhere d =
+          getD-set-other rows i h (longer (rowAt rows i) a) (record { C = 0; D = 0; T = 0 }) d
+          ∙ ap (λ (c : ℕ). record { C = c; D = rowAt rows h .D; T = rowAt rows h .T }) (omega (arith, only-elsewhere i a h d))
 
   -- so rank and rivals stay
   above-stays : above after ≡ above rows
@@ -117,20 +76,23 @@ module _ (rows : List Row) (i a : ℕ) (inside : i < length rows) where
 
   -- what one row asks for grows by a × ceil where it is row i
   ask-grows : (h t : ℕ) → ask (rowAt after h) t ≡ ask (rowAt rows h) t + only i (a * ceil t (rowAt rows i .T)) h
-  ask-grows h t = ap (λ (r : Row). ask r t) (raised-row h) ∙ mul-add (ceil t (rowAt rows h .T)) (rowAt rows h .C) (only i a h) ∙ ap (λ (n : ℕ). ask (rowAt rows h) t + n) (go (eqb h i) refl)
+  ask-grows h t =
+      ap (λ (r : Row). ask r t) (raised-row h)
+      ∙ mul-add (ceil t (rowAt rows h .T)) (rowAt rows h .C) (only i a h)
+      ∙ ap (λ (n : ℕ). ask (rowAt rows h) t + n) (⊎-elim there elsewhere (equal-or-not h i))
     where
-      go : (b : Bool) → eqb h i ≡ b → ceil t (rowAt rows h .T) * only i a h ≡ only i (a * ceil t (rowAt rows i .T)) h
-      go true e =
-          let there : h ≡ i = eqb-true h i e in
-          ap (λ (n : ℕ). ceil t (rowAt rows h .T) * n) (only-there i a h there)
+      there : h ≡ i → ceil t (rowAt rows h .T) * only i a h ≡ only i (a * ceil t (rowAt rows i .T)) h
+      there e =
+          ap (λ (n : ℕ). ceil t (rowAt rows h .T) * n) (only-there i a h e)
           ∙ mul-comm (ceil t (rowAt rows h .T)) a
-          ∙ ap (λ (x : ℕ). a * ceil t (rowAt rows x .T)) there
-          ∙ sym (only-there i (a * ceil t (rowAt rows i .T)) h there)
-      go false e =
-          let elsewhere : h ≡ i → ⊥ = eqb-false h i e in
-          ap (λ (n : ℕ). ceil t (rowAt rows h .T) * n) (only-elsewhere i a h elsewhere)
+          ∙ ap (λ (x : ℕ). a * ceil t (rowAt rows x .T)) e
+          ∙ sym (only-there i (a * ceil t (rowAt rows i .T)) h e)
+
+      elsewhere : (h ≡ i → ⊥) → ceil t (rowAt rows h .T) * only i a h ≡ only i (a * ceil t (rowAt rows i .T)) h
+      elsewhere d =
+          ap (λ (n : ℕ). ceil t (rowAt rows h .T) * n) (only-elsewhere i a h d)
           ∙ mul-zero (ceil t (rowAt rows h .T))
-          ∙ sym (only-elsewhere i (a * ceil t (rowAt rows i .T)) h elsewhere)
+          ∙ sym (only-elsewhere i (a * ceil t (rowAt rows i .T)) h d)
 
   demand-grows : (hs : List ℕ) (t : ℕ) → demand after hs t ≡ demand rows hs t + sum (only i (a * ceil t (rowAt rows i .T))) hs
   unfolding demand sum
@@ -153,8 +115,7 @@ module _ (rows : List Row) (i a : ℕ) (inside : i < length rows) where
       sum-without i x (rivals rows k) (all-map (rivals rows k) (λ h r e. no-i (subst (λ (y : ℕ). T (rival rows y k)) e (r .1))) (all-rivals rows k))
 
   one-rival : (k x : ℕ) → T (rival rows i k) → sum (only i x) (rivals rows k) ≡ x
-  unfolding rivals
-  one-rival k x r = sum-with i x (mem-rivals rows i k inside r) (ordered-keep _<_ (λ h. rival rows h k) (places rows) (upFrom-ascending 0 (length rows)))
+  one-rival k x r = sum-with i x (mem-rivals rows i k inside r) (rivals-ascending rows k)
 
   -- row k's load counts C of row i as often as the quotient's divisor says
   pub load-of-touched : (k t : ℕ) → T (touches rows i k) → load after k t ≡ load rows k t + a * times rows k i t

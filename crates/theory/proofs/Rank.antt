@@ -1,38 +1,36 @@
 -- Rank is a strict order, and what the levels of a row's walk have to do with its rivals. Of the relation `rival` the theory uses three laws:
 -- it looks at deadlines and places only, it holds where one row ranks above another, and the rivals of a row ranked above are among its own.
-use mathlib.Core.Path.{_≡_, refl, sym, _∙_, ap, subst}
-use Prim.Native.Nat.{ℕ, zero, suc, _+_, _*_, _≤_, _<_, zero-le}
-use mathlib.Core.Bool.{Bool, true, false}
-use mathlib.Core.Logic.{_↔_, _⊎_, inl, inr, ⊎-elim}
-use mathlib.Core.List.{List, [], _∷_, _++_, map, List·Memᴰ}
+use mathlib.Core.Path.{_≡_, sym, ap, subst}
+use Prim.Native.Nat.{ℕ, suc, _+_, _≤_, _<_}
+use mathlib.Core.Logic.{_↔_, _⊎_}
+use mathlib.Core.List.{List, _∷_, _++_, map, List·Memᴰ}
 use native.Mathlib.Omega.{arith}
 use native.Mathlib.Nat.{le-of-eq, le-of-lt, le-refl, le-trans}
 use lib.Dec.{T}
 use lib.ListN.{length, getD, take, drop, length-map}
 use lib.Seq.{split-at, take-length}
 use Rattle.theory.specs.Row.{Row, rowAt}
-use Rattle.theory.specs.Gather.{sum, keep, sort}
+use Rattle.theory.specs.Gather.{sum, sort}
 use Rattle.theory.specs.Rank.{places, above, rival, rivals, levels}
-use Rattle.theory.specs.Response.{ceil, demand, load, own}
-use Rattle.theory.proofs.Each.{All, T-true, all-map, all-both, all-keep, keep-passes, all-upFrom, true-of}
-use Rattle.theory.proofs.Member.{all-at, mem-keep, mem-upFrom, mem-of-sort, mem-of-keep, mem-getD}
-use Rattle.theory.proofs.Sum.{where-passes, where-passes-true, where-passes-false, sum-append, sum-sort, sum-keep-le, sum-keep, sum-le, sum-eq}
+use Rattle.theory.specs.Response.{demand, load, own}
+use Rattle.theory.proofs.Each.{All, all-map, all-kept, true-of}
+use Rattle.theory.proofs.Member.{all-at, mem-keep, mem-of-sort, mem-getD}
+use Rattle.theory.proofs.Places.{places-inside, mem-places}
+use Rattle.theory.proofs.Sum.{where-passes, where-passes-true, sum-append, sum-sort, sum-keep-le, sum-keep, sum-eq}
 use Rattle.theory.proofs.Order.{Ordered, upFrom-ascending, ordered-keep, ordered-append-split, sort-ordered}
-use Rattle.theory.proofs.Tests.{LessOrTied, less, tied, less-or-tied, passes-less-or-tied, tied-irreflexive, tied-connected, tied-transitive}
+use Rattle.theory.proofs.Tests.{less-or-tied, passes-less-or-tied, tied-asymmetric, tied-connected, tied-chain}
 use Rattle.theory.proofs.Demand.{ask, levelDemand, demand-of-first, row-of-place}
 
 module _ (rows : List Row) where
   -- rank in words: the smaller D ranks higher; of equal D, the earlier row
   pub above-exactly : (h k : ℕ) → T (above rows h k) ↔ ((rowAt rows h .D < rowAt rows k .D) ⊎ ((rowAt rows h .D ≡ rowAt rows k .D) × (h < k)))
-  above-exactly h k = (λ t. by-cases (less-or-tied _ _ h k t), ⊎-elim (λ l. passes-less-or-tied _ _ h k (less l)) (λ s. passes-less-or-tied _ _ h k (tied (s .0) (s .1))))
-    where
-      by-cases : LessOrTied (rowAt rows h .D) (rowAt rows k .D) h k → (rowAt rows h .D < rowAt rows k .D) ⊎ ((rowAt rows h .D ≡ rowAt rows k .D) × (h < k))
-      by-cases (less l) = inl l
-      by-cases (tied e l) = inr (e, l)
+  above-exactly h k = (less-or-tied (rowAt rows h .D) (rowAt rows k .D) h k, passes-less-or-tied (rowAt rows h .D) (rowAt rows k .D) h k)
 
+  -- a row above a row that ranks above z ranks above z
   pub above-transitive : (x y z : ℕ) → T (above rows x y) → T (above rows y z) → T (above rows x z)
-  above-transitive x y z = tied-transitive (rowAt rows x .D) (rowAt rows y .D) (rowAt rows z .D) x y z
+  above-transitive x y z s t = above-exactly x z .1 (tied-chain (above-exactly x y .0 s) (above-exactly y z .0 t) (omega arith) (omega arith) (omega arith))
 
+  -- of two different rows one ranks above the other
   pub above-connected : (x y : ℕ) → (x ≡ y → ⊥) → T (above rows x y) ⊎ T (above rows y x)
   above-connected x y = tied-connected (rowAt rows x .D) (rowAt rows y .D) x y
 
@@ -42,7 +40,7 @@ module _ (rows : List Row) where
 
   -- no row is its own rival
   pub rival-irreflexive : (x : ℕ) → T (rival rows x x) → ⊥
-  rival-irreflexive x = tied-irreflexive (rowAt rows x .D) x
+  rival-irreflexive x t = tied-asymmetric (rowAt rows x .D) (rowAt rows x .D) x x t t
 
   -- a rival of a row ranked above k is a rival of k
   pub rival-above : (x h k : ℕ) → T (rival rows x h) → T (above rows h k) → T (rival rows x k)
@@ -51,24 +49,23 @@ module _ (rows : List Row) where
   -- a row of the set that is a rival is in the list of rivals, and the other way round
   pub mem-rivals : (h k : ℕ) → h < length rows → T (rival rows h k) → List·Memᴰ h (rivals rows k)
   unfolding rivals
-  mem-rivals h k l t = mem-keep (λ x. rival rows x k) (mem-upFrom 0 (length rows) h zero-le (omega arith)) t
+  mem-rivals h k l t = mem-keep (λ x. rival rows x k) (mem-places rows h l) t
 
   pub all-rivals : (k : ℕ) → All (λ h. (h < length rows) × T (rival rows h k)) (rivals rows k)
   unfolding rivals
-  all-rivals k =
-      all-both (λ h. h < length rows) (λ h. T (rival rows h k)) (keep (λ x. rival rows x k) (places rows))
-      (all-keep (λ h. h < length rows) (λ x. rival rows x k) (places rows) (all-map (places rows) (λ x b. omega arith) (all-upFrom 0 (length rows))))
-      (keep-passes (λ x. rival rows x k) (places rows))
+  all-rivals k = all-kept (λ h. h < length rows) (λ x. rival rows x k) (places rows) (places-inside rows)
+
+  -- the rivals stand in table order
+  pub rivals-ascending : (k : ℕ) → Ordered _<_ (rivals rows k)
+  unfolding rivals
+  rivals-ascending k = ordered-keep _<_ (λ h. rival rows h k) (places rows) (upFrom-ascending 0 (length rows))
 
   -- the rivals of row k by rank
   abbrev pub ranked : ℕ → List ℕ
   ranked k = sort (above rows) (rivals rows k)
 
   pub ranked-ordered : (k : ℕ) → Ordered (λ x y. T (above rows x y)) (ranked k)
-  unfolding rivals
-  ranked-ordered k =
-      sort-ordered (above rows) above-transitive (λ x y h. above-connected x y (λ e. omega arith)) (rivals rows k)
-      (ordered-keep _<_ (λ h. rival rows h k) (places rows) (upFrom-ascending 0 (length rows)))
+  ranked-ordered k = sort-ordered (above rows) above-transitive (λ x y h. above-connected x y (λ e. omega arith)) (rivals rows k) (rivals-ascending k)
 
   -- the load of row k, by the levels of its walk
   pub load-by-levels : (k t : ℕ) → load rows k t ≡ own (rowAt rows k) + levelDemand (levels rows k) (length (levels rows k)) t

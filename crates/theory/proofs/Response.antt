@@ -1,15 +1,12 @@
 -- Response times: unique, found by the climb, and there exactly when some time up to the deadline has room. Most proofs want room and not
 -- the least solution: this file converts one into the other.
-use mathlib.Core.Path.{_≡_, refl, sym, _∙_, ap}
-use Prim.Native.Nat.{ℕ, zero, suc, _+_, _≤_, _<_}
-use mathlib.Core.Bool.{Bool, true, false}
+use mathlib.Core.Path.{_≡_}
+use Prim.Native.Nat.{ℕ, _≤_, _<_}
 use mathlib.Core.List.{List}
 use native.Mathlib.Omega.{arith}
-use native.Mathlib.Nat.{le-antisymm, le-refl, le-trans}
-use lib.ListN.{length}
-use Rattle.theory.specs.Row.{Row, rowAt, WithinLimits, AllWithin}
-use Rattle.theory.specs.Rank.{rivals}
-use Rattle.theory.specs.Response.{load, own, demand, IsResponse, Meets, Outcome, responds, misses, IsOutcome, climb, outcome}
+use native.Mathlib.Nat.{le-antisymm, le-refl}
+use Rattle.theory.specs.Row.{Row, rowAt}
+use Rattle.theory.specs.Response.{load, IsResponse, Meets, Outcome, responds, misses, IsOutcome, climb, outcome}
 use Rattle.theory.proofs.Demand.{load-mono}
 use Rattle.theory.proofs.Climb.{RoomAt, LeastRoom, Start, Climbed, climb-right}
 

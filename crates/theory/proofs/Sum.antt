@@ -1,13 +1,16 @@
 -- Sums over lists of numbers.
-use mathlib.Core.Path.{_≡_, refl}
-use Prim.Native.Nat.{ℕ, _+_, _≤_, zero-le}
-use native.Mathlib.Nat.{add-le-add, le-trans, le-of-eq}
+use mathlib.Core.Path.{_≡_, refl, sym}
+use Prim.Native.Nat.{ℕ, _+_, _*_, _≤_, _<_, zero-le}
+use native.Mathlib.Nat.{add-le-add, le-trans, le-of-eq, zero-mul}
 use native.Mathlib.Omega.{arith}
 use mathlib.Core.Bool.{Bool, true, false}
-use mathlib.Core.List.{List, [], _∷_, _++_}
+use mathlib.Core.List.{List, [], _∷_, _++_, List·Memᴰ, List·Memᴰ·head, List·Memᴰ·tail}
+use lib.Dec.{eqb}
+use borrow.Author.Tests.{eq-eqb, ne-eqb}
 use Rattle.theory.specs.Gather.{keep, sum, insert, sort}
-use Rattle.theory.proofs.Each.{All, keep-cases, insert-cases}
-use Rattle.theory.proofs.Member.{all-from}
+use Rattle.theory.proofs.Each.{All, keep-cases, insert-cases, all-map}
+use Rattle.theory.proofs.Member.{all-at, all-from}
+use Rattle.theory.proofs.Order.{Ordered}
 
 -- a term where a test passes, and 0 where it fails
 unfoldable pub where-passes : (ℕ → Bool) → (ℕ → ℕ) → ℕ → ℕ
@@ -67,3 +70,42 @@ sum-keep-le test term xs =
     at-most : (x : ℕ) (b : Bool) → test x ≡ b → where-passes test term x ≤ term x
     at-most x true e = le-of-eq (where-passes-true test term x e)
     at-most x false e = le-trans (le-of-eq (where-passes-false test term x e)) zero-le
+
+-- x where h is i, else 0
+abbrev pub only : ℕ → ℕ → ℕ → ℕ
+only i x h = where-passes (λ (k : ℕ). eqb k i) (λ k. x) h
+
+-- at i it is x
+pub only-there : (i x h : ℕ) → h ≡ i → only i x h ≡ x
+only-there i x h e = where-passes-true (λ k. eqb k i) (λ k. x) h (eq-eqb h i e)
+
+-- elsewhere it is 0
+pub only-elsewhere : (i x h : ℕ) → (h ≡ i → ⊥) → only i x h ≡ 0
+only-elsewhere i x h d = where-passes-false (λ k. eqb k i) (λ k. x) h (ne-eqb h i d)
+
+-- a sum over a list without i
+pub sum-without : (i x : ℕ) (xs : List ℕ) → All (λ h. h ≡ i → ⊥) xs → sum (only i x) xs ≡ 0
+unfolding sum
+sum-without i x [] h = refl
+sum-without i x (y ∷ ys) h = omega (arith, only-elsewhere i x y (h .0), sum-without i x ys (h .1))
+
+-- a sum over a list with i in it once
+pub sum-with : (i x : ℕ) {xs : List ℕ} → List·Memᴰ i xs → Ordered _<_ xs → sum (only i x) xs ≡ x
+unfolding sum
+sum-with i x (List·Memᴰ·head {x = y} {xs = ys} e) o =
+    omega (arith, only-there i x y (sym e), sum-without i x ys (all-map ys (λ z l f. omega arith) (o .0)))
+sum-with i x (List·Memᴰ·tail {x = y} {xs = ys} m) o =
+    let before : y < i = all-at (λ z. y < z) m (o .0) in
+    omega (arith, only-elsewhere i x y (λ e. omega arith), sum-with i x m (o .1))
+
+-- the sum of a sum of two terms
+pub sum-of-both : (f g : ℕ → ℕ) (xs : List ℕ) → sum (λ x. f x + g x) xs ≡ sum f xs + sum g xs
+unfolding sum
+sum-of-both f g [] = refl
+sum-of-both f g (x ∷ xs) = omega (arith, sum-of-both f g xs)
+
+-- the sum of a multiple of a term
+pub sum-times : (f : ℕ → ℕ) (n : ℕ) (xs : List ℕ) → sum (λ x. f x * n) xs ≡ sum f xs * n
+unfolding sum
+sum-times f n [] = sym (zero-mul n)
+sum-times f n (x ∷ xs) = omega (arith, sum-times f n xs)

@@ -1,30 +1,29 @@
 -- Equation (1) follows: a set whose rows all meet has a utilisation of at most one.
-use mathlib.Core.Path.{_≡_, refl, sym, _∙_, ap, subst}
-use Prim.Native.Nat.{ℕ, zero, suc, _+_, _*_, _/_, _≤_, _<_, zero-le}
+use mathlib.Core.Path.{_≡_, refl, sym, ap, subst}
+use Prim.Native.Nat.{ℕ, _+_, _*_, _/_, _≤_, _<_, zero-le}
 use mathlib.Core.Bool.{Bool, true, false}
 use mathlib.Core.Logic.{_⊎_, inl, inr, ⊎-elim}
-use mathlib.Core.List.{List, [], _∷_, List·Memᴰ, List·Memᴰ·head, List·Memᴰ·tail, List·Memᴰ·cases-cons}
+use mathlib.Core.List.{List, [], _∷_}
 use native.Mathlib.Omega.{arith}
-use native.Mathlib.Nat.{le-refl, le-trans, le-of-eq, mul-le-mul, mul-le-mul-left, mul-le-mul-right, mul-assoc, mul-comm, add-mul, zero-mul, div-mul-le-self, le-of-mul-le-mul-right, mul-right-comm, one-mul}
-use borrow.Author.Tests.{eqb-true, eqb-false}
-use lib.Dec.{T, eqb}
+use native.Mathlib.Nat.{le-trans, mul-le-mul-left, div-mul-le-self, le-of-mul-le-mul-right, one-mul}
+use lib.Dec.{T}
 use lib.ListN.{length}
 use Rattle.theory.specs.Row.{Row, rowAt}
 use Rattle.theory.specs.Gather.{sum, best, upFrom}
 use Rattle.theory.specs.Rank.{places, above, rival, rivals}
-use Rattle.theory.specs.Response.{ceil, demand, load, own, Meets, AllMeet}
+use Rattle.theory.specs.Response.{ceil, demand, load, AllMeet}
 use Rattle.theory.specs.Utilisation.{work, AtMostOne}
+use Rattle.theory.proofs.Tests.{equal-or-not}
 use Rattle.theory.proofs.Ceil.{le-ceil, ceil-one}
 use Rattle.theory.proofs.Demand.{ask}
-use Rattle.theory.proofs.Each.{All, all-upFrom, T-true, T-false, true-of}
-use Rattle.theory.proofs.Member.{all-from, all-at, mem-upFrom}
-use Rattle.theory.proofs.Sum.{where-passes, where-passes-true, where-passes-false, sum-keep, sum-eq, sum-le}
+use Rattle.theory.proofs.Each.{T-true, T-false, true-of}
+use Rattle.theory.proofs.Member.{all-from}
+use Rattle.theory.proofs.Sum.{where-passes, where-passes-true, where-passes-false, sum-keep, sum-eq, sum-le, only, only-there, only-elsewhere, sum-with, sum-of-both, sum-times}
 use Rattle.theory.proofs.Order.{upFrom-ascending}
-use Rattle.theory.proofs.Raise.{only, only-there, only-elsewhere, sum-with}
 use Rattle.theory.proofs.Rank.{above-transitive, above-connected, above-rival, rival-irreflexive}
 use Rattle.theory.proofs.Verdict.{AllSteady}
-use Rattle.theory.proofs.Bound.{Best, best-is}
-use Rattle.theory.proofs.CoreAllowance.{place-inside}
+use Rattle.theory.proofs.Best.{Best, best-of-others}
+use Rattle.theory.proofs.Places.{mem-places, place-inside}
 
 -- what C asks for at its rate over P, times a response time, is at most what it asks for within the response time, times P
 rate : (C T P R : ℕ) → 0 < T → C * (P / T) * R ≤ ceil R T * C * P
@@ -35,16 +34,6 @@ rate C T P R h =
     let both : (P / T) * R ≤ jobs * P = omega arith in
     omega (arith, mul-le-mul-left C both)
 
-sum-of-both : (f g : ℕ → ℕ) (xs : List ℕ) → sum (λ x. f x + g x) xs ≡ sum f xs + sum g xs
-unfolding sum
-sum-of-both f g [] = refl
-sum-of-both f g (x ∷ xs) = omega (arith, sum-of-both f g xs)
-
-sum-times : (f : ℕ → ℕ) (n : ℕ) (xs : List ℕ) → sum (λ x. f x * n) xs ≡ sum f xs * n
-unfolding sum
-sum-times f n [] = sym (zero-mul n)
-sum-times f n (x ∷ xs) = omega (arith, sum-times f n xs)
-
 false-of : (b : Bool) → (T b → ⊥) → b ≡ false
 false-of true n = absurd (n tt)
 false-of false n = refl
@@ -54,18 +43,12 @@ module _ (rows : List Row) where
   abbrev UpTo : ℕ → ℕ → Type 0
   UpTo y k = (y ≡ k) ⊎ T (above rows y k)
 
-  up-to-transitive : (x y z : ℕ) → UpTo x y → UpTo y z → UpTo x z
-  up-to-transitive x y z (inl e) (inl f) = inl (e ∙ f)
-  up-to-transitive x y z (inl e) (inr b) = inr (subst (λ (w : ℕ). T (above rows w z)) (sym e) b)
-  up-to-transitive x y z (inr a) (inl f) = inr (subst (λ (w : ℕ). T (above rows x w)) f a)
-  up-to-transitive x y z (inr a) (inr b) = inr (above-transitive rows x y z a b)
+  up-to-lower : (y next z : ℕ) → above rows z next ≡ true → UpTo y z → UpTo y next
+  up-to-lower y next z e (inl f) = inr (subst (λ (w : ℕ). T (above rows w next)) (sym f) (T-true (above rows z next) e))
+  up-to-lower y next z e (inr a) = inr (above-transitive rows y z next a (T-true (above rows z next) e))
 
   not-above : (y z : ℕ) → above rows z y ≡ false → UpTo y z
-  not-above y z e = go (eqb y z) refl
-    where
-      go : (b : Bool) → eqb y z ≡ b → UpTo y z
-      go true f = inl (eqb-true y z f)
-      go false f = ⊎-elim (λ a. inr a) (λ b. absurd (T-false (above rows z y) e b)) (above-connected rows y z (eqb-false y z f))
+  not-above y z e = ⊎-elim inl (λ d. ⊎-elim inr (λ b. absurd (T-false (above rows z y) e b)) (above-connected rows y z d)) (equal-or-not y z)
 
   -- the lowest row in rank: every row is it, or ranks above it
   record Lowest : Type 0 where
@@ -76,15 +59,15 @@ module _ (rows : List Row) where
   lowest : 0 < length rows → Lowest
   lowest some = record {
     row = l;
-    in-set = ⊎-elim (λ e. omega arith) (λ m. place-inside rows l m) (List·Memᴰ·cases-cons (b .attained));
-    all-up-to = λ y h. b .over-all y (List·Memᴰ·tail (mem-upFrom 0 (length rows) y zero-le (omega arith)));
+    in-set = place-inside rows l (b .attained);
+    all-up-to = λ y h. b .over-all y (mem-places rows y h);
   }
     where
       l : ℕ
       l = best (λ next first. above rows first next) 0 (places rows)
 
-      b : Best (λ next first. above rows first next) UpTo (λ y. inl refl) up-to-transitive (λ y z e. inr (T-true (above rows z y) e)) not-above 0 (places rows) l
-      b = best-is (λ next first. above rows first next) UpTo (λ y. inl refl) up-to-transitive (λ y z e. inr (T-true (above rows z y) e)) not-above 0 (places rows)
+      b : Best UpTo (places rows) l
+      b = best-of-others (λ next first. above rows first next) UpTo (λ y. inl refl) up-to-lower not-above 0 (places rows) (mem-places rows 0 some)
 
   module _ (steady : AllSteady rows) (all : AllMeet rows) (low : Lowest) where
     abbrev k : ℕ
@@ -121,7 +104,7 @@ module _ (rows : List Row) where
           sum-eq asked (λ h. where-passes (λ x. rival rows x k) asked h + only k (asked k) h) (places rows) (all-from (places rows) (λ h m. apart h (low .all-up-to h (place-inside rows h m)))),
           sum-of-both (where-passes (λ x. rival rows x k) asked) (only k (asked k)) (places rows),
           sum-keep (λ x. rival rows x k) asked (places rows),
-          sum-with k (asked k) (mem-upFrom 0 (length rows) k zero-le (omega (arith, low .in-set))) (upFrom-ascending 0 (length rows)),
+          sum-with k (asked k) (mem-places rows k (low .in-set)) (upFrom-ascending 0 (length rows)),
           ap (λ (n : ℕ). n * rowAt rows k .C) (ceil-one R (all k (low .in-set) .is-response .at-least-one) (le-trans (all k (low .in-set) .by-deadline) (steady k (low .in-set) .by-period))),
           one-mul (rowAt rows k .C),
           all k (low .in-set) .is-response .solves,

@@ -1,7 +1,7 @@
 -- Demand 3, first half: all rows are on time by response times exactly when each has a scheduling point of non-negative slack. And the caution of
 -- document 01: a single row's verdict by points is exact when all its rivals meet, the first row in rank to miss is the same always.
-use mathlib.Core.Path.{_≡_, ap}
-use Prim.Native.Nat.{ℕ, _+_, _≤_, _<_}
+use mathlib.Core.Path.{ap}
+use Prim.Native.Nat.{ℕ, _≤_, _<_}
 use mathlib.Core.Logic.{_↔_}
 use mathlib.Core.List.{List}
 use native.Mathlib.Omega.{arith}
@@ -9,12 +9,11 @@ use native.Mathlib.Nat.{le-refl}
 use lib.Dec.{T}
 use lib.ListN.{length}
 use Rattle.theory.specs.Row.{Row, rowAt, WithinLimits, AllWithin}
-use Rattle.theory.specs.Rank.{above, rival, rivals, levels}
-use Rattle.theory.specs.Response.{own, demand, load, Meets, AllMeet, FirstMiss}
+use Rattle.theory.specs.Rank.{rival, levels}
+use Rattle.theory.specs.Response.{own, load, Meets, AllMeet, FirstMiss}
 use Rattle.theory.specs.Points.{points, slack, HasPoint, FirstPointless}
-use Rattle.theory.proofs.Demand.{levelDemand}
 use Rattle.theory.proofs.Response.{Room, meets-room, room-meets}
-use Rattle.theory.proofs.Rank.{Level, level, load-by-levels, above-rival, rival-above}
+use Rattle.theory.proofs.Rank.{Level, level, load-by-levels, rival-above}
 use Rattle.theory.proofs.Walk.{LevelRoom, PointAt, walk-finds, walk-within, walk-positive}
 use Rattle.theory.proofs.Signed.{slack-left}
 

@@ -1,12 +1,12 @@
 -- The walk, once over the level: what it yields lies between 1 and its start, and it yields a time with room wherever there is one.
-use mathlib.Core.Path.{_≡_, refl, ap, subst}
+use mathlib.Core.Path.{_≡_, refl, sym, _∙_, ap, fun-ext, subst}
 use Prim.Native.Nat.{ℕ, zero, suc, _+_, _-_, _*_, _/_, _≤_, _<_}
 use mathlib.Core.Bool.{Bool, true, false}
 use mathlib.Core.Logic.{_⊎_, inl, inr, ⊎-elim}
-use mathlib.Core.List.{List, [], _∷_, _++_, List·Memᴰ, List·Memᴰ·head, List·Memᴰ·eq-of-singleton, List·Memᴰ·append-cases, Memᴰ·append-left, Memᴰ·append-right}
+use mathlib.Core.List.{List, _++_, List·Memᴰ, List·Memᴰ·head, List·Memᴰ·eq-of-singleton, List·Memᴰ·append-cases, Memᴰ·append-left, Memᴰ·append-right}
 use native.Mathlib.Omega.{arith}
-use native.Mathlib.Nat.{le-refl, le-trans, mul-le-mul-left, mul-le-mul-right, mul-add, add-mul, sub-add-cancel}
-use borrow.Author.Tests.{ltb-true, ltb-false, eqb-true, eqb-false}
+use native.Mathlib.Nat.{le-refl, le-trans, mul-le-mul-left, mul-le-mul-right, mul-add, add-mul}
+use borrow.Author.Tests.{ltb-true, ltb-false, eqb-true}
 use lib.Dec.{ltb, eqb}
 use Rattle.theory.specs.Row.{Row, rowAt}
 use Rattle.theory.specs.Response.{ceil}
@@ -14,29 +14,41 @@ use Rattle.theory.specs.Points.{lastMultiple, walk}
 use Rattle.theory.proofs.Ceil.{le-ceil, ceil-mono, multiple-below, ceil-behind, ceil-upto}
 use Rattle.theory.proofs.Demand.{levelDemand, levelDemand-repeated}
 
+-- the three ways of a level, over what the level below yields, by their tests
+ways : (ℕ → List ℕ) → ℕ → ℕ → Bool → Bool → List ℕ
+ways below s t at-multiple behind-multiple =
+    elim at-multiple [ true ↦ below t | false ↦ elim behind-multiple [ true ↦ below s ++ below t | false ↦ below t ] ]
+
+-- the next level of the walk, by its period
+abbrev nextLevel : (ℕ → List ℕ) → ℕ → ℕ → List ℕ
+nextLevel below period t = ways below (lastMultiple period t) t (eqb (lastMultiple period t) t) (ltb 0 (lastMultiple period t))
+
+-- level j + 1 of the walk is the next level over level j
+walk-level : (hs : List Row) (j t : ℕ) → walk hs (suc j) t ≡ nextLevel (walk hs j) (rowAt hs j .T) t
+unfolding walk ways
+walk-level hs j t = refl
+
+-- the walk goes by periods alone
+pub walk-by-periods : (gs hs : List Row) → ((j : ℕ) → rowAt gs j .T ≡ rowAt hs j .T) → (j t : ℕ) → walk gs j t ≡ walk hs j t
+unfolding walk
+walk-by-periods gs hs same zero t = refl
+walk-by-periods gs hs same (suc j) t =
+    walk-level gs j t
+    ∙ ap (λ (below : ℕ → List ℕ). nextLevel below (rowAt gs j .T) t) (fun-ext (walk-by-periods gs hs same j))
+    ∙ ap (λ (period : ℕ). nextLevel (walk hs j) period t) (same j)
+    ∙ sym (walk-level hs j t)
+
 module _ (hs : List Row) where
   -- the multiple that level j + 1 goes by
   abbrev pub stop : ℕ → ℕ → ℕ
   stop j t = lastMultiple (rowAt hs j .T) t
 
-  -- the three ways of one level, by their tests
-  ways : ℕ → ℕ → Bool → Bool → List ℕ
-  ways j t at-multiple behind-multiple =
-      elim at-multiple [
-        | true ↦ walk hs j t
-        | false ↦ elim behind-multiple [ true ↦ walk hs j (stop j t) ++ walk hs j t | false ↦ walk hs j t ]
-      ]
-
-  walk-ways : (j t : ℕ) → walk hs (suc j) t ≡ ways j t (eqb (stop j t) t) (ltb 0 (stop j t))
-  unfolding walk ways
-  walk-ways j t = refl
-
   -- a level yields what the level below yields from the same time
   pub walk-from-same : (j t p : ℕ) → List·Memᴰ p (walk hs j t) → List·Memᴰ p (walk hs (suc j) t)
   unfolding ways
-  walk-from-same j t p m = rw walk-ways (go (eqb (stop j t) t) (ltb 0 (stop j t)))
+  walk-from-same j t p m = rw (walk-level hs j t) (go (eqb (stop j t) t) (ltb 0 (stop j t)))
     where
-      go : (a b : Bool) → List·Memᴰ p (ways j t a b)
+      go : (a b : Bool) → List·Memᴰ p (ways (walk hs j) (stop j t) t a b)
       go true b = m
       go false true = Memᴰ·append-right (walk hs j (stop j t)) m
       go false false = m
@@ -44,9 +56,9 @@ module _ (hs : List Row) where
   -- and from the multiple, where that is not 0
   pub walk-from-stop : (j t p : ℕ) → 0 < stop j t → List·Memᴰ p (walk hs j (stop j t)) → List·Memᴰ p (walk hs (suc j) t)
   unfolding ways
-  walk-from-stop j t p h m = rw walk-ways (go (eqb (stop j t) t) (ltb 0 (stop j t)) refl refl)
+  walk-from-stop j t p h m = rw (walk-level hs j t) (go (eqb (stop j t) t) (ltb 0 (stop j t)) refl refl)
     where
-      go : (a b : Bool) → eqb (stop j t) t ≡ a → ltb 0 (stop j t) ≡ b → List·Memᴰ p (ways j t a b)
+      go : (a b : Bool) → eqb (stop j t) t ≡ a → ltb 0 (stop j t) ≡ b → List·Memᴰ p (ways (walk hs j) (stop j t) t a b)
       go true b e f = subst (λ (s : ℕ). List·Memᴰ p (walk hs j s)) (eqb-true (stop j t) t e) m
       go false true e f = Memᴰ·append-left (walk hs j t) m
       go false false e f = absurd (let z : stop j t ≤ 0 = ltb-false 0 (stop j t) f in omega arith)
@@ -54,9 +66,9 @@ module _ (hs : List Row) where
   -- a level yields nothing else
   pub walk-cases : (j t p : ℕ) → List·Memᴰ p (walk hs (suc j) t) → List·Memᴰ p (walk hs j t) ⊎ ((0 < stop j t) × List·Memᴰ p (walk hs j (stop j t)))
   unfolding ways
-  walk-cases j t p m = go (eqb (stop j t) t) (ltb 0 (stop j t)) refl (rw walk-ways at m)
+  walk-cases j t p m = go (eqb (stop j t) t) (ltb 0 (stop j t)) refl (rw (walk-level hs j t) at m)
     where
-      go : (a b : Bool) → ltb 0 (stop j t) ≡ b → List·Memᴰ p (ways j t a b)
+      go : (a b : Bool) → ltb 0 (stop j t) ≡ b → List·Memᴰ p (ways (walk hs j) (stop j t) t a b)
           → List·Memᴰ p (walk hs j t) ⊎ ((0 < stop j t) × List·Memᴰ p (walk hs j (stop j t)))
       go true b f q = inl q
       go false true f q =
