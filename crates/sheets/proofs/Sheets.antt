@@ -19,7 +19,7 @@ use Rattle.theory.proofs.Bound.{bound-is}
 use Rattle.placement.specs.Core.{coreRows, placeOnCore}
 use Rattle.placement.specs.Order.{taken}
 use Rattle.placement.specs.Choice.{allowanceFit}
-use Rattle.placement.specs.Placing.{takes, candidateAt, takers, preferred, chosenOf, stepOf, run, figuresOf, certificateOf, certificate, responseOf}
+use Rattle.placement.specs.Placing.{takes, candidateAt, takers, chosenOf, stepOf, run, figuresOf, certificateOf, certificate, responseOf}
 use Rattle.listing.specs.Listing.{ascii, headerLine, digitsBefore, decimal, rowLine, rowLines, smallestAllowance, systemAllowance, listing, refusal}
 use Rattle.sheets.specs.Sheets.{Sheet, set-accepted, set-misses, below-one, walk-yields, points-as-set, bound-on, slack-at, quotient-at, order-taken, listed, no-core-takes, Holds, sheets}
 use Rattle.sheets.proofs.Test.{sameList, oneOf, isSet, isTable, textOf, stopsAt, passes, allPass}
@@ -79,7 +79,7 @@ each-holds (first ∷ others) t sheet m = go (each-holds others (and-second (pas
 
 -- the test, computed over the whole list
 all-pass : T (allPass sheets)
-unfolding sheets allPass passes sameList oneOf isSet isTable upFrom keep sum every insert sort best rivals levels ceil demand load climb outcome onTime lastMultiple walk points slack floorDiv times quotient bound pointAllowance allowance coreAllowance work coreRows placeOnCore taken takes candidateAt takers preferred chosenOf stepOf run figuresOf certificateOf certificate ascii headerLine digitsBefore decimal rowLine rowLines smallestAllowance systemAllowance listing refusal
+unfolding sheets allPass passes sameList oneOf isSet isTable upFrom keep sum every insert sort best rivals levels ceil demand load climb outcome onTime lastMultiple walk points slack floorDiv times quotient bound pointAllowance allowance coreAllowance work coreRows placeOnCore taken takes candidateAt takers chosenOf stepOf run figuresOf certificateOf certificate ascii headerLine digitsBefore decimal rowLine rowLines smallestAllowance systemAllowance listing refusal
 all-pass = tt
 
 -- EVERY SHEET HOLDS

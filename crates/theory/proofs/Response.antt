@@ -8,7 +8,8 @@ use native.Mathlib.Nat.{le-antisymm, le-refl}
 use Rattle.theory.specs.Row.{Row, rowAt}
 use Rattle.theory.specs.Response.{load, IsResponse, Meets, Outcome, responds, misses, IsOutcome, climb, outcome}
 use Rattle.theory.proofs.Demand.{load-mono}
-use Rattle.theory.proofs.Climb.{RoomAt, LeastRoom, Start, Climbed, climb-right}
+use Rattle.theory.specs.Climb.{RoomAt, LeastRoom, Start, Climbed}
+use Rattle.theory.proofs.Climb.{climb-right}
 
 -- a response time is unique
 pub response-unique : (rows : List Row) (k R S : ℕ) → IsResponse rows k R → IsResponse rows k S → R ≡ S

@@ -1,21 +1,21 @@
 -- The laws on which a search by trial stands: a row that meets with b more in row i meets with less, its response time without the raise is a start for
 -- the climb with it, and row i's own distance to its deadline bounds every raise.
 use mathlib.Core.Path.{_≡_, refl, ap, subst}
-use Prim.Native.Nat.{ℕ, _+_, _-_, _*_, _≤_, _<_}
+use Prim.Native.Nat.{ℕ, _+_, _*_, _≤_, _<_}
 use mathlib.Core.Bool.{Bool, true, false}
 use mathlib.Core.List.{List}
 use native.Mathlib.Omega.{arith}
-use native.Mathlib.Nat.{le-refl, le-trans, mul-le-mul-right, mul-one}
+use native.Mathlib.Nat.{le-trans, mul-le-mul-right, mul-one}
 use borrow.Author.Tests.{eq-eqb}
 use lib.Dec.{T, eqb, eqb-refl}
 use lib.ListN.{length, length-set}
 use Rattle.theory.specs.Row.{Row, rowAt}
-use Rattle.theory.specs.Rank.{rivals, rival}
-use Rattle.theory.specs.Response.{demand, load, own, Outcome, responds, misses, climb, IsResponse, Meets, AllMeet}
+use Rattle.theory.specs.Rank.{rival}
+use Rattle.theory.specs.Response.{load, Outcome, responds, misses, climb, IsResponse, Meets, AllMeet}
 use Rattle.theory.specs.Allowance.{longer, raised, IsAllowance}
 use Rattle.theory.specs.Points.{times, touches}
-use Rattle.theory.proofs.Climb.{RoomAt, LeastRoom, Start, Climbed}
-use Rattle.theory.proofs.Demand.{demand-mono, load-mono}
+use Rattle.theory.specs.Climb.{RoomAt, Start, Climbed}
+use Rattle.theory.proofs.Demand.{load-mono}
 use Rattle.theory.proofs.Response.{Room, meets-room, room-meets, climb-from-one}
 use Rattle.theory.proofs.Raise.{raised-row, load-of-touched, load-of-untouched}
 use Rattle.theory.proofs.Tests.{or-first}
@@ -39,16 +39,18 @@ module _ (rows : List Row) (i : ℕ) (inside : i < length rows) where
       go : (c : Bool) → touches rows i k ≡ c → load (raised rows i a) k t ≤ load (raised rows i b) k t
       go true e =
           let touched : T (touches rows i k) = T-true (touches rows i k) e in
-          omega
-          (arith,
-          load-of-touched rows i a inside k t touched,
-          load-of-touched rows i b inside k t touched,
-          mul-le-mul-right (times rows k i t) h)
+          omega (
+            arith,
+            load-of-touched rows i a inside k t touched,
+            load-of-touched rows i b inside k t touched,
+            mul-le-mul-right (times rows k i t) h,
+          )
       go false e =
-          omega
-          (arith,
-          load-of-untouched rows i a inside k t (T-false (touches rows i k) e),
-          load-of-untouched rows i b inside k t (T-false (touches rows i k) e))
+          omega (
+            arith,
+            load-of-untouched rows i a inside k t (T-false (touches rows i k) e),
+            load-of-untouched rows i b inside k t (T-false (touches rows i k) e),
+          )
 
   -- nor does raising it at all
   pub raise-loads : (a k t : ℕ) → load rows k t ≤ load (raised rows i a) k t
@@ -66,7 +68,7 @@ module _ (rows : List Row) (i : ℕ) (inside : i < length rows) where
       (record {
         time = r .time;
         room = record { from-one = r .room .from-one; enough = le-trans (raise-mono a b k (r .time) h) (r .room .enough) };
-        within = omega (arith, r .within, same-deadline a k, same-deadline b k)
+        within = omega (arith, r .within, same-deadline a k, same-deadline b k);
       })
     where
       same-deadline : (a k : ℕ) → rowAt (raised rows i a) k .D ≡ rowAt rows k .D
@@ -78,7 +80,7 @@ module _ (rows : List Row) (i : ℕ) (inside : i < length rows) where
     response-starts a = record {
       from-one = is-R .at-least-one;
       rises = omega (arith, is-R .solves, raise-loads a k R);
-      below-room = λ S room. response-below-room rows k R S runs is-R (record { from-one = room .from-one; enough = le-trans (raise-loads a k S) (room .enough) })
+      below-room = λ S room. response-below-room rows k R S runs is-R (record { from-one = room .from-one; enough = le-trans (raise-loads a k S) (room .enough) });
     }
 
   -- its own raise counts once in row i's load
@@ -86,11 +88,12 @@ module _ (rows : List Row) (i : ℕ) (inside : i < length rows) where
   unfolding times
   raised-own b t =
       let once : times rows i i t ≡ 1 = rw (eq-eqb i i refl, times) in
-      omega
-      (arith,
-      load-of-touched rows i b inside i t (or-first (eqb i i) (rival rows i i) (eqb-refl i)),
-      ap (λ (n : ℕ). b * n) once,
-      mul-one b)
+      omega (
+        arith,
+        load-of-touched rows i b inside i t (or-first (eqb i i) (rival rows i i) (eqb-refl i)),
+        ap (λ (n : ℕ). b * n) once,
+        mul-one b,
+      )
 
   -- no raise of row i with which it meets takes its response time past its deadline
   pub raise-bounded : (b R : ℕ) → 1 ≤ rowAt rows i .C → IsResponse rows i R → Meets (raised rows i b) i → R + b ≤ rowAt rows i .D
@@ -100,17 +103,18 @@ module _ (rows : List Row) (i : ℕ) (inside : i < length rows) where
       let total : load rows i Q + b ≡ Q = omega (arith, m .is-response .solves, raised-own b Q) in
       let S = load rows i Q in
       let fits : load rows i S ≤ S = load-mono rows i (omega arith) in
-      omega
-      (arith,
-      response-below-room rows i R S runs is-R (record { from-one = omega arith; enough = fits }),
-      m .by-deadline,
-      ap (λ (r : Row). r .D) (raised-row rows i b inside i))
+      omega (
+        arith,
+        response-below-room rows i R S runs is-R (record { from-one = omega arith; enough = fits }),
+        m .by-deadline,
+        ap (λ (r : Row). r .D) (raised-row rows i b inside i),
+      )
 
   -- what a search by trial finds is the allowance: each row that the raise touches meets with it, and no larger one leaves all rows meeting
   pub trial-allowance : (a : ℕ) → AllSteady rows → AllMeet rows
-    → ((k : ℕ) → k < length rows → T (touches rows i k) → Meets (raised rows i a) k)
-    → ((b : ℕ) → AllMeet (raised rows i b) → b ≤ a)
-    → IsAllowance rows i a
+      → ((k : ℕ) → k < length rows → T (touches rows i k) → Meets (raised rows i a) k)
+      → ((b : ℕ) → AllMeet (raised rows i b) → b ≤ a)
+      → IsAllowance rows i a
   trial-allowance a steady all touched-meet no-larger = record { all-meet = meet; largest = no-larger }
     where
       meet : AllMeet (raised rows i a)
@@ -118,6 +122,7 @@ module _ (rows : List Row) (i : ℕ) (inside : i < length rows) where
         where
           in-set : k < length rows
           in-set = subst (λ (n : ℕ). k < n) (length-set rows i (longer (rowAt rows i) a)) h
+
           go : (b : Bool) → touches rows i k ≡ b → Meets (raised rows i a) k
           go true e = touched-meet k in-set (T-true (touches rows i k) e)
           go false e =
@@ -126,5 +131,5 @@ module _ (rows : List Row) (i : ℕ) (inside : i < length rows) where
               (record {
                 time = r .time;
                 room = record { from-one = r .room .from-one; enough = omega (arith, r .room .enough, load-of-untouched rows i a inside k (r .time) (T-false (touches rows i k) e)) };
-                within = omega (arith, r .within, ap (λ (r : Row). r .D) (raised-row rows i a inside k))
+                within = omega (arith, r .within, ap (λ (r : Row). r .D) (raised-row rows i a inside k));
               })

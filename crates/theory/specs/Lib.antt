@@ -4,6 +4,7 @@ pub mod Gather
 pub mod Row
 pub mod Rank
 pub mod Response
+pub mod Climb
 pub mod Allowance
 pub mod Points
 pub mod Utilisation
