@@ -1,0 +1,4 @@
+-- What the climb is asked on lists of numbers, and what it must come to.
+pub mod Levels
+pub mod Ranking
+pub mod Climb

@@ -1,0 +1,3 @@
+-- The quotients of a row at the points of its walk, as lists of numbers.
+pub mod Quotients
+pub mod Bounds

@@ -1,0 +1,38 @@
+-- The quotients of a row at a point, one for each row above it and one for itself, and a list of numbers raised to the greatest of them.
+use mathlib.Core.Path.{_≡_}
+use Prim.Native.Nat.{ℕ, _≤_, _<_}
+use mathlib.Core.Bool.{true, false}
+use mathlib.Core.Logic.{_⊎_}
+use mathlib.Core.List.{List, List·Memᴰ}
+use lib.Dec.{ltb}
+use lib.IntN.{ℤ, pos, _-ℤ_}
+use lib.ListN.{length, getD}
+use lib.Signed.{_≤ℤ_}
+use Rattle.theory.specs.Row.{Row}
+use Rattle.theory.specs.Response.{ceil}
+use Rattle.theory.specs.Points.{floorDiv, walk}
+use Rattle.theory.specs.Lists.{rowsOf}
+use Rattle.climbs.specs.Levels.{loadOf}
+
+-- the divisor of entry j at p: the jobs of the row above with that place, and 1 for the row itself, whose entry comes last
+unfoldable pub divisorOf : List ℕ → ℕ → ℕ → ℕ
+divisorOf ts j p = elim (ltb j (length ts)) [ true ↦ ceil p (getD ts j 0) | false ↦ 1 ]
+
+-- the quotient of entry j at p
+unfoldable pub quotientOf : ℕ → List ℕ → List ℕ → ℕ → ℕ → ℤ
+quotientOf own cs ts j p = floorDiv (pos p -ℤ pos (loadOf own cs ts p)) (divisorOf ts j p)
+
+-- a number raised to the greatest of itself and what a function gives at the numbers that were visited
+pub record RaisedTo (value : ℕ → ℤ) (Visited : ℕ → Type 0) (before after : ℤ) : Type 0 where
+  pub no-less : before ≤ℤ after
+  pub over-visited : (p : ℕ) → Visited p → value p ≤ℤ after
+  pub attained : (after ≡ before) ⊎ ((p : ℕ) × Visited p × (value p ≡ after))
+
+-- the points of the walk at a level from a time that are above a last one
+abbrev pub NewPoints : List ℕ → List ℕ → ℕ → ℕ → ℕ → ℕ → Type 0
+NewPoints cs ts level time last p = List·Memᴰ p (walk (rowsOf cs ts ts) level time) × (last < p)
+
+-- every entry, the row's own too, raised to the greatest of its quotients at the visited points
+abbrev pub AllRaised : ℕ → List ℕ → List ℕ → (ℕ → Type 0) → List ℤ → List ℤ → Type 0
+AllRaised own cs ts Visited before after =
+    (j : ℕ) → j ≤ length cs → RaisedTo (quotientOf own cs ts j) Visited (getD before j (pos 0)) (getD after j (pos 0))
