@@ -1,3 +1,2 @@
 -- The quotients of a row at the points of its walk, as lists of numbers.
 pub mod Quotients
-pub mod Bounds

@@ -12,7 +12,7 @@ use Rattle.theory.specs.Row.{Row}
 use Rattle.theory.specs.Response.{ceil}
 use Rattle.theory.specs.Points.{floorDiv, walk}
 use Rattle.theory.specs.Lists.{rowsOf}
-use Rattle.climbs.specs.Levels.{loadOf}
+use Rattle.demands.specs.Levels.{loadOf}
 
 -- the divisor of entry j at p: the jobs of the row above with that place, and 1 for the row itself, whose entry comes last
 unfoldable pub divisorOf : List ℕ → ℕ → ℕ → ℕ

@@ -1,25 +1,12 @@
-// Allowances by the point formula, on lists of C, D and T: document 01, "Scheduling points". The walk visits each distinct point once, in ascending order.
+// The walk over a row's points: document 01, "Scheduling points". It visits each distinct point once, in ascending order, and keeps the greatest quotients.
 ghost use mathlib.Core.Path.{_≡_};
-ghost use mathlib.Core.List.{List};
-ghost use Prim.Native.Nat.{ℕ, suc, _+_, _*_, _≤_, _<_, max};
-ghost use lib.IntN.{ℤ, pos, natAbs};
+ghost use Prim.Native.Nat.{_≤_, _<_, max};
+ghost use lib.IntN.{pos, natAbs};
 ghost use lib.Signed.{_≤ℤ_};
-ghost use lib.ListN.{length, getD, take};
-ghost use Rattle.theory.specs.Row.{AllWithin};
-ghost use Rattle.theory.specs.Response.{AllMeet};
-ghost use Rattle.theory.specs.Points.{floorDiv, IsPointAllowance};
-ghost use Rattle.theory.specs.Lists.{Shaped, rowsOf};
-ghost use Rattle.climbs.specs.Levels.{Small};
-ghost use Rattle.climbs.specs.Ranking.{rankingBy, rivalsIn};
-ghost use Rattle.walks.specs.Quotients.{quotientOf, RaisedTo, NewPoints, AllRaised};
-ghost use Rattle.walks.specs.Bounds.{HoldsBounds};
-
-// A row's bounds: at the front of `best` on each of its n rivals, whose places are at the front of `place`, and then on the row itself.
-pub struct Bounds {
-    pub best: [i64; 25],
-    pub place: [usize; 24],
-    pub n: usize,
-}
+ghost use lib.ListN.{length};
+ghost use Rattle.theory.specs.Points.{floorDiv};
+ghost use Rattle.demands.specs.Levels.{Small};
+ghost use Rattle.walks.specs.Quotients.{NewPoints, AllRaised};
 
 fn wide(x: u32) -> i64
     ensures { λ r. ⌜ r ≡ pos x ⌝ }
@@ -47,10 +34,10 @@ fn visit(p: u32, own: u32, c: &[u32], t: &[u32], best: &mut [i64])
     requires { ⌜ length (now c) < length (now best) ⌝ }
     ensures { λ _. ⌜ AllRaised own (now (c .entry)) (now (t .entry)) (λ x. x ≡ p) (now (best .entry)) (now (best .exit)) ⌝ }
 {
-    let slack = wide(p) - wide(own + climbs::demand(c, t, p));
+    let slack = wide(p) - wide(own + demands::demand(c, t, p));
     let mut j = 0;
     while j < c.len() {
-        let q = floor_div(slack, wide(climbs::jobs(p, t[j])));
+        let q = floor_div(slack, wide(demands::jobs(p, t[j])));
         if best[j] < q {
             best[j] = q;
         }
@@ -94,55 +81,4 @@ fn walk_on(
     }
     let reached = walk_on(below, stop, last, own, c, t, best);
     walk_on(below, time, reached, own, c, t, best)
-}
-
-// The bounds of row k.
-pub fn bounds_of(c: &[u32], d: &[u32], t: &[u32], order: &[usize; 24], k: usize) -> Bounds
-    requires { ⌜ Shaped (now c) (now d) (now t) × AllWithin (rowsOf (now c) (now d) (now t)) ⌝ }
-    requires { ⌜ take (length (now d)) (now order) ≡ rankingBy (now d) ⌝ }
-    requires { ⌜ k < length (now c) ⌝ }
-    ensures { λ r. ⌜ HoldsBounds (rowsOf (now (c .entry)) (now (d .entry)) (now (t .entry))) k (rivalsIn (rankingBy (now (d .entry))) (now (d .entry)) k) r ⌝ }
-{
-    let rivals = climbs::rivals_of(c, d, t, order, k);
-    let n = rivals.n;
-    let cs = rivals.c;
-    let ts = rivals.t;
-    let place = rivals.place;
-    let mut best = [-9223372036854775808i64; 25];
-    walk_on(n, d[k], 0, c[k], &cs[..n], &ts[..n], &mut best);
-    Bounds { best, place, n }
-}
-
-// Lowers the allowance of each row that row k's bounds speak of.
-fn lower(allowed: &mut [i64; 24], bounds: Bounds, k: usize) {
-    let n = bounds.n;
-    let best = bounds.best;
-    let place = bounds.place;
-    let mut j = 0;
-    while j < n {
-        let h = place[j];
-        if best[j] < allowed[h] {
-            allowed[h] = best[j];
-        }
-        j += 1;
-    }
-    if best[n] < allowed[k] {
-        allowed[k] = best[n];
-    }
-}
-
-// The point allowance of each row.
-pub fn point_allowances(c: &[u32], d: &[u32], t: &[u32], order: &[usize; 24]) -> [i64; 24]
-    requires { ⌜ Shaped (now c) (now d) (now t) × AllWithin (rowsOf (now c) (now d) (now t)) ⌝ }
-    requires { ⌜ take (length (now d)) (now order) ≡ rankingBy (now d) ⌝ }
-    ensures { λ r. ⌜ ((i : ℕ) → i < length (now (c .entry)) → IsPointAllowance (rowsOf (now (c .entry)) (now (d .entry)) (now (t .entry))) i (getD r i (pos 0))) ⌝ }
-{
-    let mut allowed = [9223372036854775807i64; 24];
-    let mut k = 0;
-    while k < c.len() {
-        let bounds = bounds_of(c, d, t, order, k);
-        lower(&mut allowed, bounds, k);
-        k += 1;
-    }
-    allowed
 }

@@ -1,0 +1,2 @@
+-- Rows above another, as lists of C and T.
+pub mod Levels
