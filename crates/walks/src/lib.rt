@@ -49,7 +49,7 @@ fn visit(p: u32, own: u32, c: &[u32], t: &[u32], best: &mut [i64])
 }
 
 // Visits the points of the walk at a level from a time that are above the last one visited, and gives the last one visited then.
-fn walk_on(
+pub fn walk_on(
     level: usize,
     time: u32,
     last: u32,
