@@ -1,5 +1,4 @@
 -- What the parts of the two list services must come to.
-pub mod Checked
 pub mod Verdict
 pub mod Trial
 pub mod Bounds

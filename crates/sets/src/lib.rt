@@ -12,7 +12,6 @@ use theory::Answer;
 
 mod allowance;
 mod bounds;
-mod refusal;
 
 // Whether all rows are on time, or the place of the highest-ranked row that misses.
 pub enum Verdict {
@@ -77,7 +76,7 @@ pub fn set_service(
 ) -> Answer
     ensures { λ r. ⌜ SetAnswered (now (c .entry)) (now (d .entry)) (now (t .entry)) (now (responses .entry)) (now (allowances .entry)) r (now (responses .exit)) (now (allowances .exit)) ⌝ }
 {
-    let checked = refusal::check_lists(c, d, t, responses.len(), allowances.len());
+    let checked = refusals::check_lists(c, d, t, responses.len(), allowances.len());
     let Answer::Accepted = checked else {
         return checked;
     };
@@ -104,7 +103,7 @@ pub fn point_service(
 ) -> Answer
     ensures { λ r. ⌜ PointAnswered (now (c .entry)) (now (d .entry)) (now (t .entry)) (now (responses .entry)) (now (allowances .entry)) r (now (responses .exit)) (now (allowances .exit)) ⌝ }
 {
-    let checked = refusal::check_lists(c, d, t, responses.len(), allowances.len());
+    let checked = refusals::check_lists(c, d, t, responses.len(), allowances.len());
     let Answer::Accepted = checked else {
         return checked;
     };

@@ -1,10 +1,10 @@
-// The checks before any climb: refusals 3, 4 and 7, in this order.
+// The checks of lists before any climb: refusals 3, 4 and 7 of document 01, in this order.
 ghost use mathlib.Core.Path.{_≡_};
 ghost use Prim.Native.Nat.{ℕ, _≤_, _<_};
 ghost use lib.ListN.{length, getD};
 ghost use Rattle.theory.specs.Row.{withinLimits, WithinLimits, rowAt};
 ghost use Rattle.theory.specs.Lists.{Shaped, rowsOf};
-ghost use Rattle.sets.specs.Checked.{Checked};
+ghost use Rattle.refusals.specs.Checked.{Checked};
 use theory::Answer;
 
 // Whether a row keeps the limits.

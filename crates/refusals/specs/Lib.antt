@@ -1,0 +1,2 @@
+-- The checks of lists before any climb.
+pub mod Checked
