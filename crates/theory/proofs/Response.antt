@@ -41,9 +41,16 @@ least-response rows k R l = record {
   least = λ S one e. l .least S (record { from-one = one; enough = omega arith });
 }
 
+-- what a climb to the deadline comes to is the row's outcome
+pub climbed-outcome : (rows : List Row) (k : ℕ) (o : Outcome) → Climbed (load rows k) (rowAt rows k .D) o → IsOutcome rows k o
+climbed-outcome rows k (responds R) c = (least-response rows k R (c .0), c .1)
+climbed-outcome rows k misses c = λ m.
+    let r : Room rows k (rowAt rows k .D) = meets-room rows k m in
+    omega (arith, c (r .time) (r .room), r .within)
+
 module _ (rows : List Row) (k : ℕ) (runs : 1 ≤ rowAt rows k .C) where
   -- every climb may start from 1
-  start-at-one : Start (load rows k) 1
+  pub start-at-one : Start (load rows k) 1
   unfolding load
   start-at-one = record {
     from-one = le-refl 1;
@@ -58,13 +65,7 @@ module _ (rows : List Row) (k : ℕ) (runs : 1 ≤ rowAt rows k .C) where
   -- the outcome of the response time question
   pub outcome-right : IsOutcome rows k (outcome rows k)
   unfolding outcome
-  outcome-right = go (climb (load rows k) (rowAt rows k .D) (rowAt rows k .D) 1) (climb-from-one (rowAt rows k .D))
-    where
-      go : (o : Outcome) → Climbed (load rows k) (rowAt rows k .D) o → IsOutcome rows k o
-      go (responds R) c = (least-response rows k R (c .0), c .1)
-      go misses c = λ m.
-          let r : Room rows k (rowAt rows k .D) = meets-room rows k m in
-          omega (arith, c (r .time) (r .room), r .within)
+  outcome-right = climbed-outcome rows k (climb (load rows k) (rowAt rows k .D) (rowAt rows k .D) 1) (climb-from-one (rowAt rows k .D))
 
   -- with room by the deadline the row meets
   pub room-meets : Room rows k (rowAt rows k .D) → Meets rows k
