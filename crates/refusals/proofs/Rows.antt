@@ -34,9 +34,9 @@ module _ (cs ds ts : List ℕ) (shaped : Shaped cs ds ts) where
 
   -- a place within the lists, after rows that keep the limits, that breaks them is the first
   pub broken-at : (k : ℕ) → k < length cs
-    → ((h : ℕ) → h < k → WithinLimits (rowAt (rowsOf cs ds ts) h))
-    → (WithinLimits (rowAt (rowsOf cs ds ts) k) → ⊥)
-    → FirstBroken (rowsOf cs ds ts) k
+      → ((h : ℕ) → h < k → WithinLimits (rowAt (rowsOf cs ds ts) h))
+      → (WithinLimits (rowAt (rowsOf cs ds ts) k) → ⊥)
+      → FirstBroken (rowsOf cs ds ts) k
   broken-at k inside earlier breaks = record { in-table = omega (arith, as-many-rows); breaks = breaks; earlier-keep = earlier }
 
   -- rows that keep the limits up to the lists' length are all rows

@@ -72,14 +72,14 @@ pub fn point_allowances(c: &[u32], d: &[u32], t: &[u32], order: &[usize; 24]) ->
 }
 
 // Allowances that are no negative numbers, as 32-bit numbers.
-pub fn as_numbers(allowed: &[i64; 24], n: usize) -> [u32; 24]
-    requires { ⌜ n ≤ 24 ⌝ }
-    requires { ⌜ ((i : ℕ) → i < n → IsSmall (getD (now allowed) i (pos 0))) ⌝ }
-    ensures { λ r. ⌜ ((i : ℕ) → i < n → pos (getD r i 0) ≡ getD (now (allowed .entry)) i (pos 0)) ⌝ }
+pub fn as_numbers(allowed: &[i64]) -> [u32; 24]
+    requires { ⌜ length (now allowed) ≤ 24 ⌝ }
+    requires { ⌜ ((i : ℕ) → i < length (now allowed) → IsSmall (getD (now allowed) i (pos 0))) ⌝ }
+    ensures { λ r. ⌜ ((i : ℕ) → i < length (now (allowed .entry)) → pos (getD r i 0) ≡ getD (now (allowed .entry)) i (pos 0)) ⌝ }
 {
     let mut numbers = [0u32; 24];
     let mut j = 0;
-    while j < n {
+    while j < allowed.len() {
         numbers[j] = allowed[j] as u32;
         j += 1;
     }

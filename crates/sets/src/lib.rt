@@ -2,9 +2,8 @@
 ghost use mathlib.Core.Path.{_≡_};
 ghost use Prim.Native.Nat.{ℕ, _≤_, _<_};
 ghost use lib.ListN.{length, getD, take, drop};
-ghost use mathlib.Core.List.{_++_};
 ghost use Rattle.theory.specs.Row.{AllWithin};
-ghost use Rattle.theory.specs.Lists.{Shaped, rowsOf, SetAnswered, PointAnswered};
+ghost use Rattle.theory.specs.Lists.{filled, Shaped, rowsOf, SetAnswered, PointAnswered};
 ghost use Rattle.climbs.specs.Ranking.{rankingBy};
 ghost use Rattle.sets.specs.Verdict.{IsVerdict};
 use climbs::Climb;
@@ -54,13 +53,13 @@ pub fn responses_of(c: &[u32], d: &[u32], t: &[u32], order: &[usize; 24]) -> Fou
     }
 }
 
-// Fills the front of a lent list with the first n numbers.
-fn fill(list: &mut [u32], numbers: &[u32; 24], n: usize)
-    requires { ⌜ (n ≤ 24) × (n ≤ length (now list)) ⌝ }
-    ensures { λ _. ⌜ now (list .exit) ≡ take n (now (numbers .entry)) ++ drop n (now (list .entry)) ⌝ }
+// Fills the front of a lent list with numbers.
+fn fill(list: &mut [u32], numbers: &[u32])
+    requires { ⌜ length (now numbers) ≤ length (now list) ⌝ }
+    ensures { λ _. ⌜ now (list .exit) ≡ filled (now (numbers .entry)) (now (list .entry)) ⌝ }
 {
     let mut j = 0;
-    while j < n {
+    while j < numbers.len() {
         list[j] = numbers[j];
         j += 1;
     }
@@ -80,6 +79,7 @@ pub fn set_service(
     let Answer::Accepted = checked else {
         return checked;
     };
+    let n = c.len();
     let order = climbs::ranking(d);
     let found = responses_of(c, d, t, &order);
     let verdict = found.verdict;
@@ -88,8 +88,8 @@ pub fn set_service(
     }
     let response = found.response;
     let allowed = allowance::trial_allowances(c, d, t, &order, &response);
-    fill(responses, &response, c.len());
-    fill(allowances, &allowed, c.len());
+    fill(responses, &response[..n]);
+    fill(allowances, &allowed[..n]);
     Answer::Accepted
 }
 
@@ -107,6 +107,7 @@ pub fn point_service(
     let Answer::Accepted = checked else {
         return checked;
     };
+    let n = c.len();
     let order = climbs::ranking(d);
     let found = responses_of(c, d, t, &order);
     let verdict = found.verdict;
@@ -115,8 +116,8 @@ pub fn point_service(
     }
     let response = found.response;
     let signed = bounds::point_allowances(c, d, t, &order);
-    let allowed = bounds::as_numbers(&signed, c.len());
-    fill(responses, &response, c.len());
-    fill(allowances, &allowed, c.len());
+    let allowed = bounds::as_numbers(&signed[..n]);
+    fill(responses, &response[..n]);
+    fill(allowances, &allowed[..n]);
     Answer::Accepted
 }

@@ -30,7 +30,7 @@ row-of-lists (c ∷ cs) (x ∷ ds) (y ∷ ts) d t (suc k) = row-of-lists cs ds t
 
 -- raising row i is raising C of it
 pub raised-rows-of : (cs ds ts : List ℕ) (i a : ℕ) → length ds ≡ length cs → length ts ≡ length cs → i < length cs
-  → raised (rowsOf cs ds ts) i a ≡ rowsOf (set cs i (getD cs i 0 + a)) ds ts
+    → raised (rowsOf cs ds ts) i a ≡ rowsOf (set cs i (getD cs i 0 + a)) ds ts
 unfolding rowsOf
 raised-rows-of [] ds ts i a d t h = absurd (omega arith)
 raised-rows-of (c ∷ cs) [] ts i a d t h = absurd (omega arith)

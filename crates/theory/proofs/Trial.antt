@@ -102,7 +102,7 @@ module _ (rows : List Row) (i : ℕ) (inside : i < length rows) where
   least-starts a b k R h l = record {
     from-one = l .room .from-one;
     rises = omega (arith, l .repeats, raise-mono a b k R h);
-    below-room = λ S room. l .least S (record { from-one = room .from-one; enough = le-trans (raise-mono a b k S h) (room .enough) })
+    below-room = λ S room. l .least S (record { from-one = room .from-one; enough = le-trans (raise-mono a b k S h) (room .enough) });
   }
 
   -- raising by nothing changes no load
@@ -121,7 +121,7 @@ module _ (rows : List Row) (i : ℕ) (inside : i < length rows) where
       (record {
         time = r .time;
         room = record { from-one = r .room .from-one; enough = omega (arith, r .room .enough, raised-by-none k (r .time)) };
-        within = omega (arith, r .within, ap (λ (r : Row). r .D) (raised-row rows i 0 inside k))
+        within = omega (arith, r .within, ap (λ (r : Row). r .D) (raised-row rows i 0 inside k));
       })
 
   -- a raise up to the deadline keeps the limits

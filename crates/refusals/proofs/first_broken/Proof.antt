@@ -44,10 +44,13 @@ within-limits-requires c κs = tt
 returns : tie.Need-returns Inv-loop μ-loop
 returns c =
     let start = c .before .before .before .before .before .before .before .before .before .before in
-    let k = c .before .before .before .before .before .before .loop .k in
-    (omega arith,
-    (c .before .before .before .before .before .before .loop .inv .1,
-    λ inside. failing-row (start .args .c .now) (start .args .d .now) (start .args .t .now) (start .pre) k (sym (c .before .within-limits .ensures) ∙ not-true _ (c .if1 .taken))))
+    let k = c .before .before .before .before .before .before .loop .k in (
+      omega arith,
+      (
+        c .before .before .before .before .before .before .loop .inv .1,
+        λ inside. failing-row (start .args .c .now) (start .args .d .now) (start .args .t .now) (start .pre) k (sym (c .before .within-limits .ensures) ∙ not-true _ (c .if1 .taken)),
+      ),
+    )
 
 add-k : tie.Need-add-k Inv-loop μ-loop
 add-k c = omega arith
@@ -58,10 +61,11 @@ loop-less c = omega arith
 loop-again : tie.Need-loop-again Inv-loop μ-loop
 loop-again c =
     let start = c .before .before .before .before .before .before .before .before .before .before in
-    let k = c .before .before .before .before .before .before .loop .k in
-    (omega arith,
-    below-more _ _ (c .before .before .before .before .before .before .loop .inv .1)
-    (passing-row (start .args .c .now) (start .args .d .now) (start .args .t .now) (start .pre) k (sym (c .before .within-limits .ensures) ∙ not-false _ (c .if1 .left))))
+    let k = c .before .before .before .before .before .before .loop .k in (
+      omega arith,
+      below-more _ _ (c .before .before .before .before .before .before .loop .inv .1)
+          (passing-row (start .args .c .now) (start .args .d .now) (start .args .t .now) (start .pre) k (sym (c .before .within-limits .ensures) ∙ not-false _ (c .if1 .left))),
+    )
 
 returns-2 : tie.Need-returns-2 Inv-loop μ-loop
 returns-2 c = (omega arith, (c .before .loop .inv .1, λ inside. absurd (omega arith)))
