@@ -19,12 +19,7 @@ pub fn floor_div(z: i64, m: i64) -> i64
     requires { ⌜ (pos 1 ≤ℤ m) ⌝ }
     ensures { λ r. ⌜ r ≡ floorDiv z (natAbs m) ⌝ }
 {
-    let q = z / m;
-    if z < 0 {
-        if q * m == z { q } else { q - 1 }
-    } else {
-        q
-    }
+    if z < 0 { (z + 1) / m - 1 } else { z / m }
 }
 
 // Raises each best quotient to the quotient at a point, where that is greater.

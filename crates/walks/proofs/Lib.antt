@@ -1,0 +1,2 @@
+-- The laws that the proofs of the walk stand on.
+pub mod Rounding
