@@ -1,2 +1,3 @@
 -- The laws that the proofs of the walk stand on.
 pub mod Rounding
+pub mod Raised
