@@ -1,3 +1,4 @@
 -- The laws that the proofs of the walk stand on.
 pub mod Rounding
+pub mod Quotients
 pub mod Raised
