@@ -7,6 +7,7 @@ pub mod Places
 pub mod Order
 pub mod Sum
 pub mod Limits
+pub mod RowsOf
 pub mod Ceil
 pub mod Demand
 pub mod Climb
