@@ -2,3 +2,5 @@
 pub mod Rounding
 pub mod Quotients
 pub mod Raised
+pub mod NewPoints
+pub mod Level

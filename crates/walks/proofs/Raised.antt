@@ -49,6 +49,39 @@ raised-at value p before = go (ltZ before (value p)) refl
         rw (greater-first before (value p) e)
         (record { no-less = ≤ℤ-refl before; over-visited = at-point before (not-less before (value p) e); attained = inl refl })
 
+module _ (value : ℕ → ℤ) where
+  -- raised to nothing
+  pub raised-to-nothing : (Visited : ℕ → Type 0) → ((p : ℕ) → Visited p → ⊥) → (z : ℤ) → RaisedTo value Visited z z
+  raised-to-nothing Visited none z = record { no-less = ≤ℤ-refl z; over-visited = λ p v. absurd (none p v); attained = inl refl }
+
+  -- raised in two steps: to the points of the first, and then to those of the second
+  pub raised-in-two : (First Second Both : ℕ → Type 0)
+      → ((p : ℕ) → First p → Both p)
+      → ((p : ℕ) → Second p → Both p)
+      → ((p : ℕ) → Both p → First p ⊎ Second p)
+      → (before middle after : ℤ)
+      → RaisedTo value First before middle
+      → RaisedTo value Second middle after
+      → RaisedTo value Both before after
+  raised-in-two First Second Both from-first from-second of-both before middle after r s = record {
+    no-less = ≤ℤ-trans before middle after (r .no-less) (s .no-less);
+    over-visited = λ p v. ⊎-elim (λ f. ≤ℤ-trans (value p) middle after (r .over-visited p f) (s .no-less)) (s .over-visited p) (of-both p v);
+    attained = ⊎-elim (λ same. ⊎-elim (λ e. inl (same ∙ e)) (λ q. inr (q .0, from-first (q .0) (q .1), q .2 ∙ sym same)) (r .attained)) (λ q. inr (q .0, from-second (q .0) (q .1), q .2)) (s .attained);
+  }
+
+  -- raised to the same points, said otherwise
+  pub raised-alike : (These Those : ℕ → Type 0)
+      → ((p : ℕ) → These p → Those p)
+      → ((p : ℕ) → Those p → These p)
+      → (before after : ℤ)
+      → RaisedTo value These before after
+      → RaisedTo value Those before after
+  raised-alike These Those there back before after r = record {
+    no-less = r .no-less;
+    over-visited = λ p v. r .over-visited p (back p v);
+    attained = ⊎-elim inl (λ q. inr (q .0, there (q .0) (q .1), q .2)) (r .attained);
+  }
+
 -- the first j entries raised to what each one's function gives at one point, and the others as they were
 pub record RaisedUpTo (value : ℕ → ℕ → ℤ) (p j : ℕ) (before after : List ℤ) : Type 0 where
   pub as-long : length after ≡ length before

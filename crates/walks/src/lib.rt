@@ -4,7 +4,7 @@ ghost use Prim.Native.Nat.{_≤_, _<_, max};
 ghost use lib.IntN.{pos, natAbs, _-ℤ_};
 ghost use lib.Signed.{_≤ℤ_};
 ghost use lib.ListN.{length, getD, set};
-ghost use Rattle.theory.specs.Points.{floorDiv};
+ghost use Rattle.theory.specs.Points.{floorDiv, lastMultiple};
 ghost use Rattle.demands.specs.Levels.{Small, loadOf};
 ghost use Rattle.walks.specs.Quotients.{greater, NewPoints, AllRaised};
 
@@ -57,6 +57,14 @@ fn visit(p: u32, own: u32, c: &[u32], t: &[u32], best: &mut [i64])
     raise(best, j, slack);
 }
 
+// The largest multiple of m not above a time.
+fn last_multiple(m: u32, time: u32) -> u32
+    requires { ⌜ 1 ≤ m ⌝ }
+    ensures { λ r. ⌜ r ≡ lastMultiple m time ⌝ }
+{
+    time / m * m
+}
+
 // Visits the points of the walk at a level from a time that are above the last one visited, and gives the last one visited then.
 fn walk_on(
     level: usize,
@@ -81,13 +89,11 @@ fn walk_on(
         return time;
     }
     let below = level - 1;
-    let stop = time / t[below] * t[below];
-    if stop == time {
-        return walk_on(below, time, last, own, c, t, best);
-    }
+    let stop = last_multiple(t[below], time);
     if stop == 0 {
         return walk_on(below, time, last, own, c, t, best);
     }
+    // Where the multiple is the time itself, the second half has nothing new.
     let reached = walk_on(below, stop, last, own, c, t, best);
     walk_on(below, time, reached, own, c, t, best)
 }
