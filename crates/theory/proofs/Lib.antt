@@ -13,6 +13,7 @@ pub mod Demand
 pub mod Climb
 pub mod Response
 pub mod Walk
+pub mod Ascending
 pub mod Signed
 pub mod Rank
 pub mod Verdict

@@ -7,7 +7,7 @@ use mathlib.Core.List.{List, List·Memᴰ}
 use lib.Dec.{ltb}
 use lib.IntN.{ℤ, pos, _-ℤ_}
 use lib.ListN.{length, getD}
-use lib.Signed.{_≤ℤ_}
+use lib.Signed.{ltZ, _≤ℤ_}
 use Rattle.theory.specs.Row.{Row}
 use Rattle.theory.specs.Response.{ceil}
 use Rattle.theory.specs.Points.{floorDiv, walk}
@@ -21,6 +21,10 @@ divisorOf ts j p = elim (ltb j (length ts)) [ true ↦ ceil p (getD ts j 0) | fa
 -- the quotient of entry j at p
 unfoldable pub quotientOf : ℕ → List ℕ → List ℕ → ℕ → ℕ → ℤ
 quotientOf own cs ts j p = floorDiv (pos p -ℤ pos (loadOf own cs ts p)) (divisorOf ts j p)
+
+-- the greater of two numbers
+unfoldable pub greater : ℤ → ℤ → ℤ
+greater a b = elim (ltZ a b) [ true ↦ b | false ↦ a ]
 
 -- a number raised to the greatest of itself and what a function gives at the numbers that were visited
 pub record RaisedTo (value : ℕ → ℤ) (Visited : ℕ → Type 0) (before after : ℤ) : Type 0 where

@@ -1,12 +1,12 @@
 // The walk over a row's points: document 01, "Scheduling points". It visits each distinct point once, in ascending order, and keeps the greatest quotients.
 ghost use mathlib.Core.Path.{_≡_};
 ghost use Prim.Native.Nat.{_≤_, _<_, max};
-ghost use lib.IntN.{pos, natAbs};
+ghost use lib.IntN.{pos, natAbs, _-ℤ_};
 ghost use lib.Signed.{_≤ℤ_};
-ghost use lib.ListN.{length};
-ghost use Rattle.theory.specs.Points.{floorDiv};
-ghost use Rattle.demands.specs.Levels.{Small};
-ghost use Rattle.walks.specs.Quotients.{NewPoints, AllRaised};
+ghost use lib.ListN.{length, getD, set};
+ghost use Rattle.theory.specs.Points.{floorDiv, lastMultiple};
+ghost use Rattle.demands.specs.Levels.{Small, loadOf};
+ghost use Rattle.walks.specs.Quotients.{greater, NewPoints, AllRaised};
 
 fn wide(x: u32) -> i64
     ensures { λ r. ⌜ r ≡ pos x ⌝ }
@@ -19,11 +19,25 @@ pub fn floor_div(z: i64, m: i64) -> i64
     requires { ⌜ (pos 1 ≤ℤ m) ⌝ }
     ensures { λ r. ⌜ r ≡ floorDiv z (natAbs m) ⌝ }
 {
-    let q = z / m;
-    if z < 0 {
-        if q * m == z { q } else { q - 1 }
-    } else {
-        q
+    if z < 0 { (z + 1) / m - 1 } else { z / m }
+}
+
+// The slack at a time of a row with its own time and the rows above it.
+fn slack_at(p: u32, own: u32, c: &[u32], t: &[u32]) -> i64
+    requires { ⌜ Small (now c) (now t) ⌝ }
+    requires { ⌜ (p ≤ 1_000_000) × (own ≤ 1_000_000) ⌝ }
+    ensures { λ r. ⌜ r ≡ pos p -ℤ pos (loadOf own (now (c .entry)) (now (t .entry)) p) ⌝ }
+{
+    wide(p) - wide(own + demands::demand(c, t, p))
+}
+
+// Raises an entry to a number, where that is greater.
+fn raise(best: &mut [i64], j: usize, q: i64)
+    requires { ⌜ j < length (now best) ⌝ }
+    ensures { λ _. ⌜ now (best .exit) ≡ set (now (best .entry)) j (greater (getD (now (best .entry)) j (pos 0)) q) ⌝ }
+{
+    if best[j] < q {
+        best[j] = q;
     }
 }
 
@@ -34,18 +48,21 @@ fn visit(p: u32, own: u32, c: &[u32], t: &[u32], best: &mut [i64])
     requires { ⌜ length (now c) < length (now best) ⌝ }
     ensures { λ _. ⌜ AllRaised own (now (c .entry)) (now (t .entry)) (λ x. x ≡ p) (now (best .entry)) (now (best .exit)) ⌝ }
 {
-    let slack = wide(p) - wide(own + demands::demand(c, t, p));
+    let slack = slack_at(p, own, c, t);
     let mut j = 0;
     while j < c.len() {
-        let q = floor_div(slack, wide(demands::jobs(p, t[j])));
-        if best[j] < q {
-            best[j] = q;
-        }
+        raise(best, j, floor_div(slack, wide(demands::jobs(p, t[j]))));
         j += 1;
     }
-    if best[j] < slack {
-        best[j] = slack;
-    }
+    raise(best, j, slack);
+}
+
+// The largest multiple of m not above a time.
+fn last_multiple(m: u32, time: u32) -> u32
+    requires { ⌜ 1 ≤ m ⌝ }
+    ensures { λ r. ⌜ r ≡ lastMultiple m time ⌝ }
+{
+    time / m * m
 }
 
 // Visits the points of the walk at a level from a time that are above the last one visited, and gives the last one visited then.
@@ -72,13 +89,11 @@ pub fn walk_on(
         return time;
     }
     let below = level - 1;
-    let stop = time / t[below] * t[below];
-    if stop == time {
-        return walk_on(below, time, last, own, c, t, best);
-    }
+    let stop = last_multiple(t[below], time);
     if stop == 0 {
         return walk_on(below, time, last, own, c, t, best);
     }
+    // Where the multiple is the time itself, the second half has nothing new.
     let reached = walk_on(below, stop, last, own, c, t, best);
     walk_on(below, time, reached, own, c, t, best)
 }

@@ -1,0 +1,6 @@
+-- The laws that the proofs of the walk stand on.
+pub mod Rounding
+pub mod Quotients
+pub mod Raised
+pub mod NewPoints
+pub mod Level
