@@ -5,6 +5,7 @@ pub mod Member
 pub mod Best
 pub mod Places
 pub mod Order
+pub mod At
 pub mod Sum
 pub mod Limits
 pub mod RowsOf
