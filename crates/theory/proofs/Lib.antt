@@ -16,6 +16,7 @@ pub mod Response
 pub mod Walk
 pub mod Ascending
 pub mod Signed
+pub mod Moved
 pub mod Rank
 pub mod Verdict
 pub mod Raise

@@ -7,5 +7,6 @@ pub mod Response
 pub mod Climb
 pub mod Allowance
 pub mod Points
+pub mod Moved
 pub mod Utilisation
 pub mod Lists
