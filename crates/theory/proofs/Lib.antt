@@ -2,6 +2,8 @@
 pub mod Tests
 pub mod Each
 pub mod Member
+pub mod InPlace
+pub mod Sorting
 pub mod Best
 pub mod Places
 pub mod Order
