@@ -1,0 +1,2 @@
+-- Laws of what rows above another ask for.
+pub mod Levels
