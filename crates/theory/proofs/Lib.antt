@@ -7,6 +7,7 @@ pub mod Sorting
 pub mod Best
 pub mod Places
 pub mod Order
+pub mod Kept
 pub mod Sum
 pub mod Limits
 pub mod Ceil

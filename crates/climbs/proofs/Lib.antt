@@ -1,0 +1,2 @@
+-- Laws of rank and of the climb on lists of numbers.
+pub mod Gathering
