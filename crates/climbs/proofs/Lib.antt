@@ -1,2 +1,3 @@
 -- Laws of rank and of the climb on lists of numbers.
 pub mod Gathering
+pub mod Load

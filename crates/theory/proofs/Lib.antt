@@ -13,6 +13,7 @@ pub mod Limits
 pub mod Ceil
 pub mod Demand
 pub mod Climb
+pub mod Rounds
 pub mod Response
 pub mod Walk
 pub mod Signed
