@@ -10,6 +10,7 @@ pub mod Order
 pub mod Kept
 pub mod Sum
 pub mod Limits
+pub mod RowsOf
 pub mod Ceil
 pub mod Demand
 pub mod Climb

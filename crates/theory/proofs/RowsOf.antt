@@ -1,0 +1,28 @@
+-- The rows that three lists are: how many, and what stands at a place.
+use mathlib.Core.Path.{_≡_, refl, ap}
+use Prim.Native.Nat.{ℕ, zero, suc, _≤_, _<_}
+use mathlib.Core.List.{List, [], _∷_}
+use native.Mathlib.Omega.{arith}
+use lib.ListN.{length, getD}
+use Rattle.theory.specs.Row.{Row, rowAt}
+use Rattle.theory.specs.Lists.{rowsOf}
+
+pub rows-of-length : (cs ds ts : List ℕ) → length ds ≡ length cs → length ts ≡ length cs → length (rowsOf cs ds ts) ≡ length cs
+unfolding rowsOf
+rows-of-length [] ds ts d t = refl
+rows-of-length (c ∷ cs) [] ts d t = absurd (omega arith)
+rows-of-length (c ∷ cs) (x ∷ ds) [] d t = absurd (omega arith)
+rows-of-length (c ∷ cs) (x ∷ ds) (y ∷ ts) d t = ap suc (rows-of-length cs ds ts (omega arith) (omega arith))
+
+-- at each place, past the end too, the row that the lists' numbers are
+pub row-of-lists : (cs ds ts : List ℕ) → length ds ≡ length cs → length ts ≡ length cs
+    → (k : ℕ)
+    → rowAt (rowsOf cs ds ts) k ≡ record { C = getD cs k 0; D = getD ds k 0; T = getD ts k 0 }
+unfolding rowsOf
+row-of-lists [] [] [] d t k = refl
+row-of-lists [] [] (y ∷ ts) d t k = absurd (omega arith)
+row-of-lists [] (x ∷ ds) ts d t k = absurd (omega arith)
+row-of-lists (c ∷ cs) [] ts d t k = absurd (omega arith)
+row-of-lists (c ∷ cs) (x ∷ ds) [] d t k = absurd (omega arith)
+row-of-lists (c ∷ cs) (x ∷ ds) (y ∷ ts) d t zero = refl
+row-of-lists (c ∷ cs) (x ∷ ds) (y ∷ ts) d t (suc k) = row-of-lists cs ds ts (omega arith) (omega arith) k
