@@ -1,9 +1,11 @@
 -- What is kept of a list: of two lists, of one number more, and of a list in order.
 use mathlib.Core.Path.{_≡_, refl, sym, _∙_, ap}
-use Prim.Native.Nat.{ℕ, _+_, _<_}
+use Prim.Native.Nat.{ℕ, suc, _+_, _≤_, _<_}
 use mathlib.Core.Bool.{Bool, true, false}
 use mathlib.Core.Logic.{_⊎_}
 use mathlib.Core.List.{List, [], _∷_, _++_, append-nil}
+use native.Mathlib.Omega.{arith}
+use native.Mathlib.Nat.{le-refl}
 use native.Mathlib.Numerals.{add-one}
 use lib.Dec.{T}
 use lib.ListN.{length, getD, take}
@@ -31,6 +33,13 @@ keep-append test (x ∷ xs) ys =
     keep-cases (λ zs. keep test (x ∷ xs ++ ys) ≡ zs ++ keep test ys) test x xs
     (λ e. keep-passes-first test x (xs ++ ys) e ∙ ap (λ (zs : List ℕ). x ∷ zs) (keep-append test xs ys))
     (λ e. keep-fails-first test x (xs ++ ys) e ∙ keep-append test xs ys)
+
+-- no more are kept than there are
+pub length-keep-le : (test : ℕ → Bool) (xs : List ℕ) → length (keep test xs) ≤ length xs
+unfolding keep
+length-keep-le test [] = le-refl 0
+length-keep-le test (x ∷ xs) =
+    keep-cases (λ zs. length zs ≤ suc (length xs)) test x xs (λ e. omega (arith, length-keep-le test xs)) (λ e. omega (arith, length-keep-le test xs))
 
 module _ (test : ℕ → Bool) (xs : List ℕ) (j : ℕ) (inside : j < length xs) where
   keep-next : keep test (take (j + 1) xs) ≡ keep test (take j xs) ++ keep test (getD xs j 0 ∷ [])
