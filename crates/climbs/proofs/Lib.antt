@@ -1,0 +1,5 @@
+-- Laws of rank and of the climb on lists of numbers.
+pub mod Gathering
+pub mod ByRank
+pub mod Load
+pub mod Held
