@@ -1,4 +1,2 @@
 -- What the parts of the two list services must come to.
 pub mod Verdict
-pub mod Trial
-pub mod Bounds

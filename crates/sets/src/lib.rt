@@ -9,9 +9,6 @@ ghost use Rattle.sets.specs.Verdict.{IsVerdict};
 use climbs::Climb;
 use theory::Answer;
 
-mod allowance;
-mod bounds;
-
 // Whether all rows are on time, or the place of the highest-ranked row that misses.
 pub enum Verdict {
     OnTime,
@@ -87,7 +84,7 @@ pub fn set_service(
         return Answer::RowMisses(k as u32 + 1);
     }
     let response = found.response;
-    let allowed = allowance::trial_allowances(c, d, t, &order, &response);
+    let allowed = trials::trial_allowances(c, d, t, &order, &response);
     fill(responses, &response[..n]);
     fill(allowances, &allowed[..n]);
     Answer::Accepted
@@ -115,8 +112,8 @@ pub fn point_service(
         return Answer::RowMisses(k as u32 + 1);
     }
     let response = found.response;
-    let signed = bounds::point_allowances(c, d, t, &order);
-    let allowed = bounds::as_numbers(&signed[..n]);
+    let signed = points::point_allowances(c, d, t, &order);
+    let allowed = points::as_numbers(&signed[..n]);
     fill(responses, &response[..n]);
     fill(allowances, &allowed[..n]);
     Answer::Accepted

@@ -9,13 +9,13 @@ use lib.IntN.{ℤ, pos, natAbs}
 use mir.Syntax.{w64}
 use mir.Val.{toZ, ofZ}
 use mir.ValLaws.{toZ-ofZ}
-use Rattle.scratch.specs.Bounds.{IsSmall}
+use Rattle.points.specs.Bounds.{IsSmall}
 use lib.ListN.{length, getD, take, drop, set, length-set}
 use lib.Seq.{getD-set-same, getD-set-other}
-use Rattle.scratch.proofs.as_numbers.Statement.{statement}
-use Rattle.scratch.proofs.as_numbers.Tie as tie
-use Rattle.scratch.proofs.as_numbers.Reads as reads
-use Rattle.scratch.proofs.as_numbers.Lts as lts
+use Rattle.points.proofs.as_numbers.Statement.{statement}
+use Rattle.points.proofs.as_numbers.Tie as tie
+use Rattle.points.proofs.as_numbers.Reads as reads
+use Rattle.points.proofs.as_numbers.Lts as lts
 
 abbrev Inv-loop : tie.InvT-loop
 Inv-loop allowed numbers₀ j₀ numbers j =

@@ -9,8 +9,7 @@ ghost use Rattle.theory.specs.Allowance.{raised, IsAllowance};
 ghost use Rattle.theory.specs.Lists.{Shaped, rowsOf};
 ghost use Rattle.climbs.specs.Ranking.{rankingBy};
 ghost use Rattle.climbs.specs.Climb.{outcomeOf};
-ghost use Rattle.sets.specs.Verdict.{RespondsInTime};
-ghost use Rattle.sets.specs.Trial.{LargestRaise};
+ghost use Rattle.trials.specs.Trial.{RespondsInTime, LargestRaise};
 use climbs::Climb;
 
 // C with row i's raised by a.

@@ -1,13 +1,15 @@
-// Allowances by the point formula: the smallest of the bounds.
+// Allowances by the point formula: each row's bounds from its walk, and of the bounds on a row the smallest. Document 01, "Scheduling points".
 ghost use mathlib.Core.Path.{_≡_};
 ghost use Prim.Native.Nat.{ℕ, _≤_, _<_};
 ghost use lib.IntN.{pos};
-ghost use lib.ListN.{length, getD, take};
+ghost use lib.ListN.{length, getD, take, set};
+ghost use Rattle.theory.proofs.Each.{All};
+ghost use Rattle.theory.specs.Moved.{LoweredTo, smaller};
 ghost use Rattle.theory.specs.Row.{AllWithin};
 ghost use Rattle.theory.specs.Points.{IsPointAllowance};
 ghost use Rattle.theory.specs.Lists.{Shaped, rowsOf};
 ghost use Rattle.climbs.specs.Ranking.{rankingBy, rivalsIn};
-ghost use Rattle.sets.specs.Bounds.{HoldsBounds, Lowered, IsSmall};
+ghost use Rattle.points.specs.Bounds.{HoldsBounds, IsOn, IsSmall};
 
 // A row's bounds: at the front of `best` on each of its n rivals, whose places are at the front of `place`, and then on the row itself.
 pub struct Bounds {
@@ -33,26 +35,28 @@ pub fn bounds_of(c: &[u32], d: &[u32], t: &[u32], order: &[usize; 24], k: usize)
     Bounds { best, place, n }
 }
 
-// Lowers the allowance of each row that row k's bounds speak of.
-fn lower(allowed: &mut [i64; 24], bounds: Bounds, k: usize)
-    requires { ⌜ (bounds .n ≤ 24) × (k < 24) ⌝ }
-    requires { ⌜ ((j : ℕ) → j < bounds .n → getD (bounds .place) j 0 < 24) ⌝ }
-    ensures { λ _. ⌜ ((i : ℕ) → i < 24 → Lowered bounds k i (getD (now (allowed .entry)) i (pos 0)) (getD (now (allowed .exit)) i (pos 0))) ⌝ }
+// Lowers an entry to a number, where that is smaller.
+fn lower_entry(allowed: &mut [i64; 24], i: usize, bound: i64)
+    requires { ⌜ i < 24 ⌝ }
+    ensures { λ _. ⌜ now (allowed .exit) ≡ set (now (allowed .entry)) i (smaller (getD (now (allowed .entry)) i (pos 0)) bound) ⌝ }
 {
-    let n = bounds.n;
-    let best = bounds.best;
-    let place = bounds.place;
+    if bound < allowed[i] {
+        allowed[i] = bound;
+    }
+}
+
+// Lowers the allowance of each row that row k's bounds are on: its rivals, and then itself.
+fn lower(allowed: &mut [i64; 24], best: &[i64], place: &[usize], k: usize)
+    requires { ⌜ length (now place) < length (now best) ⌝ }
+    requires { ⌜ All (λ h. h < 24) (now place) × (k < 24) ⌝ }
+    ensures { λ _. ⌜ ((i : ℕ) → i < 24 → LoweredTo (λ j. getD (now (best .entry)) j (pos 0)) (IsOn (now (place .entry)) k i) (getD (now (allowed .entry)) i (pos 0)) (getD (now (allowed .exit)) i (pos 0))) ⌝ }
+{
     let mut j = 0;
-    while j < n {
-        let h = place[j];
-        if best[j] < allowed[h] {
-            allowed[h] = best[j];
-        }
+    while j < place.len() {
+        lower_entry(allowed, place[j], best[j]);
         j += 1;
     }
-    if best[n] < allowed[k] {
-        allowed[k] = best[n];
-    }
+    lower_entry(allowed, k, best[j]);
 }
 
 // The point allowance of each row.
@@ -65,7 +69,10 @@ pub fn point_allowances(c: &[u32], d: &[u32], t: &[u32], order: &[usize; 24]) ->
     let mut k = 0;
     while k < c.len() {
         let bounds = bounds_of(c, d, t, order, k);
-        lower(&mut allowed, bounds, k);
+        let n = bounds.n;
+        let best = bounds.best;
+        let place = bounds.place;
+        lower(&mut allowed, &best, &place[..n], k);
         k += 1;
     }
     allowed

@@ -1,0 +1,2 @@
+-- A row's bounds as the code holds them.
+pub mod Bounds

@@ -1,0 +1,2 @@
+-- Laws of the list services.
+pub mod Front

@@ -1,0 +1,2 @@
+-- What a search by trial stands on and comes to.
+pub mod Trial

@@ -1,0 +1,18 @@
+-- Response times in time, and the largest raise of one row with which another meets.
+use Prim.Native.Nat.{ℕ, _≤_}
+use mathlib.Core.List.{List}
+use lib.ListN.{getD}
+use Rattle.theory.specs.Row.{Row, rowAt}
+use Rattle.theory.specs.Response.{IsResponse, Meets}
+use Rattle.theory.specs.Allowance.{raised}
+
+-- a list has at each row's place its response time, which is at most its deadline
+pub record RespondsInTime (rows : List Row) (responses : List ℕ) (k : ℕ) : Type 0 where
+  pub is-response : IsResponse rows k (getD responses k 0)
+  pub by-deadline : getD responses k 0 ≤ rowAt rows k .D
+
+-- r is the largest raise of row i, up to `most`, with which row k meets
+pub record LargestRaise (rows : List Row) (i k most r : ℕ) : Type 0 where
+  pub up-to : r ≤ most
+  pub meets : Meets (raised rows i r) k
+  pub largest : (b : ℕ) → b ≤ most → Meets (raised rows i b) k → b ≤ r
