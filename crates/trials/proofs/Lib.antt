@@ -1,0 +1,2 @@
+-- Laws of the search by trial.
+pub mod Raised
