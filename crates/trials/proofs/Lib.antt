@@ -1,2 +1,3 @@
 -- Laws of the search by trial.
 pub mod Raised
+pub mod Halving

@@ -5,10 +5,12 @@ use mathlib.Core.List.{List}
 use native.Mathlib.Omega.{arith}
 use lib.ListN.{length, getD, set, length-set}
 use Rattle.theory.specs.Row.{Row, rowAt, WithinLimits, AllWithin}
-use Rattle.theory.specs.Response.{load, Outcome}
-use Rattle.theory.specs.Climb.{Start, Climbed}
+use Rattle.theory.specs.Response.{Outcome}
+use Rattle.theory.specs.Climb.{Climbed}
 use Rattle.theory.specs.Allowance.{raised}
 use Rattle.theory.specs.Lists.{rowsOf, Shaped}
+use Rattle.climbs.specs.declared.Climb.{Climb}
+use Rattle.climbs.specs.Climb.{outcomeOf}
 use Rattle.theory.proofs.RowsOf.{rows-of-length, row-of-lists, raised-rows-of}
 use Rattle.theory.proofs.Trial.{raised-within}
 
@@ -28,6 +30,10 @@ module _ (cs ds ts : List ℕ) (shaped : Shaped cs ds ts) where
 
   pub in-lists : {k : ℕ} → k < length rows → k < length cs
   in-lists h = omega (arith, rows-of-length cs ds ts (shaped .as-many-deadlines) (shaped .as-many-periods))
+
+  -- what a climb to the number in the list says of the row
+  pub climb-said : (f : ℕ → ℕ) (k : ℕ) (answer : Climb) (o : Outcome) → outcomeOf answer ≡ o → Climbed f (getD ds k 0) (outcomeOf answer) → Climbed f (rowAt rows k .D) o
+  climb-said f k answer o e c = subst (λ (limit : ℕ). Climbed f limit o) (sym (deadline-of k)) (subst (Climbed f (getD ds k 0)) e c)
 
   module _ (within : AllWithin rows) (i : ℕ) (inside : i < length cs) where
     -- C with row i's raised by a

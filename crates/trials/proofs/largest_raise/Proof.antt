@@ -1,3 +1,15 @@
+-- `trials::largest_raise` meets its contract. The loop's invariant: row k meets with the lower raise and misses with the higher.
+use mathlib.Core.Path.{_≡_, refl, sym, ap, _∙_, subst}
+use Prim.Native.Nat.{ℕ, _+_, _-_, _/_, _≤_, _<_}
+use native.Mathlib.Omega.{arith}
+use borrow.Author.Needs.{needs}
+use Rattle.theory.specs.Lists.{rowsOf}
+use Rattle.theory.specs.Response.{load, responds, misses}
+use Rattle.theory.specs.Allowance.{raised}
+use Rattle.theory.proofs.Trial.{response-starts}
+use Rattle.climbs.specs.Climb.{outcomeOf}
+use Rattle.trials.proofs.Raised.{in-rows, deadline-of, climb-said}
+use Rattle.trials.proofs.Halving.{Halving, most-meets, halving-begins, halving-upper, halving-lower, halving-ends}
 use Rattle.trials.proofs.largest_raise.Statement.{statement}
 use Rattle.trials.proofs.largest_raise.Tie as tie
 use Rattle.trials.proofs.largest_raise.Reads as reads
@@ -5,58 +17,143 @@ use Rattle.trials.proofs.largest_raise.Lts as lts
 use Rattle.trials.proofs.trial.Reads as trial-reads
 
 abbrev Inv-loop : tie.InvT-loop
-Inv-loop c d t order i k response most low₀ high₀ start₀ low high start = ?
+Inv-loop c d t order i k response most low₀ high₀ start₀ low high start = Halving (rowsOf c d t) i k most low high start
 
 abbrev μ-loop : tie.MeasureT-loop
-μ-loop c d t order i k response most low₀ high₀ start₀ low high start = ?
+μ-loop c d t order i k response most low₀ high₀ start₀ low high start = high - low
 
 trial-requires : tie.Need-trial-requires Inv-loop μ-loop
-trial-requires c κs = ?
+trial-requires c κs =
+    let start = c .before .before .before in
+    let pre = start .pre in
+    let cs = start .args .c .now in
+    let ds = start .args .d .now in
+    let ts = start .args .t .now in
+    let i = start .args .i in
+    let k = start .args .k in
+    let inside = in-rows cs ds ts (pre .0 .0) (pre .1 .1 .0 .0) in
+    let in-set = in-rows cs ds ts (pre .0 .0) (pre .1 .1 .0 .1) in
+    (pre .0, (pre .1 .0, (pre .1 .1 .0, response-starts (rowsOf cs ds ts) i inside k (start .args .response) (pre .0 .1 k in-set .runs) (pre .1 .1 .1 .0) (start .args .most))))
 
 enum-told : tie.Need-enum-told Inv-loop μ-loop
-enum-told c = ?
+enum-told c = search needs
 
 returns : tie.Need-returns Inv-loop μ-loop
-returns c = ?
+returns c =
+    let start = c .before .before .before .before .before .before in
+    let pre = start .pre in
+    let cs = start .args .c .now in
+    let ds = start .args .d .now in
+    let ts = start .args .t .now in
+    let i = start .args .i in
+    let k = start .args .k in
+    let inside = in-rows cs ds ts (pre .0 .0) (pre .1 .1 .0 .0) in
+    let in-set = in-rows cs ds ts (pre .0 .0) (pre .1 .1 .0 .1) in
+    let r = c .enum-told .given .0 .0 in
+    most-meets (rowsOf cs ds ts) (pre .0 .1) i k inside in-set (start .args .most) r
+    (climb-said cs ds ts (pre .0 .0) (load (raised (rowsOf cs ds ts) i (start .args .most)) k) k (c .before .before .trial .result) (responds r) (ap outcomeOf (c .enum-told .given .1)) (c .before .before .trial .ensures))
 
 enum-told-2 : tie.Need-enum-told-2 Inv-loop μ-loop
-enum-told-2 c = ?
+enum-told-2 c = search needs
 
 loop-holds : tie.Need-loop-holds Inv-loop μ-loop
-loop-holds c = ?
+loop-holds c =
+    let start = c .before .before .before .before .before .before in
+    let pre = start .pre in
+    let cs = start .args .c .now in
+    let ds = start .args .d .now in
+    let ts = start .args .t .now in
+    let i = start .args .i in
+    let k = start .args .k in
+    let inside = in-rows cs ds ts (pre .0 .0) (pre .1 .1 .0 .0) in
+    let in-set = in-rows cs ds ts (pre .0 .0) (pre .1 .1 .0 .1) in
+    halving-begins (rowsOf cs ds ts) (pre .0 .1) i k inside in-set (start .args .most) (start .args .response) (pre .1 .1 .1 .0)
+    (omega (arith, pre .1 .1 .1 .1, deadline-of cs ds ts (pre .0 .0) k))
+    (climb-said cs ds ts (pre .0 .0) (load (raised (rowsOf cs ds ts) i (start .args .most)) k) k (c .before .before .trial .result) misses (ap outcomeOf (c .enum-told2 .given .1)) (c .before .before .trial .ensures))
 
 add-loop : tie.Need-add-loop Inv-loop μ-loop
-add-loop c = ?
+add-loop c = omega arith
 
 sub-middle : tie.Need-sub-middle Inv-loop μ-loop
-sub-middle c = ?
+sub-middle c = omega arith
 
 add-middle : tie.Need-add-middle Inv-loop μ-loop
-add-middle c = ?
+add-middle c = omega arith
 
 trial-requires-2 : tie.Need-trial-requires-2 Inv-loop μ-loop
-trial-requires-2 c κs = ?
+trial-requires-2 c κs =
+    let start = c .before .before .before .before .before .before .before .before in
+    let pre = start .pre in
+    let cs = start .args .c .now in
+    let ds = start .args .d .now in
+    let ts = start .args .t .now in
+    let i = start .args .i in
+    let k = start .args .k in
+    let inside = in-rows cs ds ts (pre .0 .0) (pre .1 .1 .0 .0) in
+    let in-set = in-rows cs ds ts (pre .0 .0) (pre .1 .1 .0 .1) in
+    let low = c .before .loop .low in
+    let high = c .before .loop .high in
+    (pre .0,
+    (pre .1 .0,
+    ((pre .1 .1 .0 .0, pre .1 .1 .0 .1, omega (arith, pre .1 .1 .0 .2, c .before .loop .inv .up-to)),
+    c .before .loop .inv .starts (low + (high - low) / 2) (omega arith))))
 
 enum-known-r : tie.Need-enum-known-r Inv-loop μ-loop
-enum-known-r c = ?
+enum-known-r c = search needs
 
 loop-less : tie.Need-loop-less Inv-loop μ-loop
-loop-less c = ?
+loop-less c = omega arith
 
 loop-again : tie.Need-loop-again Inv-loop μ-loop
-loop-again c = ?
+loop-again c =
+    let start = c .before .before .before .before .before .before .before .before .before .before .before .before in
+    let pre = start .pre in
+    let cs = start .args .c .now in
+    let ds = start .args .d .now in
+    let ts = start .args .t .now in
+    let i = start .args .i in
+    let k = start .args .k in
+    let inside = in-rows cs ds ts (pre .0 .0) (pre .1 .1 .0 .0) in
+    let in-set = in-rows cs ds ts (pre .0 .0) (pre .1 .1 .0 .1) in
+    let h = c .before .before .before .before .before .loop in
+    halving-upper (rowsOf cs ds ts) (pre .0 .1) i k inside in-set (start .args .most) (h .low) (h .high) (h .start) (h .low + (h .high - h .low) / 2) (h .inv) (omega arith) (omega arith)
+    (c .before .r .given .0 .0)
+    (climb-said cs ds ts (pre .0 .0) (load (raised (rowsOf cs ds ts) i (h .low + (h .high - h .low) / 2)) k) k (c .before .before .before .trial2 .result) (responds (c .before .r .given .0 .0)) (ap outcomeOf (c .before .r .given .1)) (c .before .before .before .trial2 .ensures))
 
 enum-told-3 : tie.Need-enum-told-3 Inv-loop μ-loop
-enum-told-3 c = ?
+enum-told-3 c = search needs
 
 loop-less-2 : tie.Need-loop-less-2 Inv-loop μ-loop
-loop-less-2 c = ?
+loop-less-2 c = omega arith
 
 loop-again-2 : tie.Need-loop-again-2 Inv-loop μ-loop
-loop-again-2 c = ?
+loop-again-2 c =
+    let start = c .before .before .before .before .before .before .before .before .before .before .before in
+    let pre = start .pre in
+    let cs = start .args .c .now in
+    let ds = start .args .d .now in
+    let ts = start .args .t .now in
+    let i = start .args .i in
+    let k = start .args .k in
+    let inside = in-rows cs ds ts (pre .0 .0) (pre .1 .1 .0 .0) in
+    let in-set = in-rows cs ds ts (pre .0 .0) (pre .1 .1 .0 .1) in
+    let h = c .before .before .before .before .loop in
+    halving-lower (rowsOf cs ds ts) (pre .0 .1) i k inside in-set (start .args .most) (h .low) (h .high) (h .start) (h .low + (h .high - h .low) / 2) (h .inv) (omega arith) (omega arith)
+    (climb-said cs ds ts (pre .0 .0) (load (raised (rowsOf cs ds ts) i (h .low + (h .high - h .low) / 2)) k) k (c .before .before .trial2 .result) misses (ap outcomeOf (c .enum-told3 .given .1)) (c .before .before .trial2 .ensures))
 
 returns-2 : tie.Need-returns-2 Inv-loop μ-loop
-returns-2 c = ?
+returns-2 c =
+    let start = c .before .before .before .before .before .before .before .before in
+    let pre = start .pre in
+    let cs = start .args .c .now in
+    let ds = start .args .d .now in
+    let ts = start .args .t .now in
+    let i = start .args .i in
+    let k = start .args .k in
+    let inside = in-rows cs ds ts (pre .0 .0) (pre .1 .1 .0 .0) in
+    let in-set = in-rows cs ds ts (pre .0 .0) (pre .1 .1 .0 .1) in
+    let h = c .before .loop in
+    halving-ends (rowsOf cs ds ts) (pre .0 .1) i k inside in-set (start .args .most) (h .low) (h .high) (h .start) (h .inv) (omega arith)
 
 pub largest-raise-spec : {M : Type 1} → statement M
 largest-raise-spec =
