@@ -26,7 +26,7 @@ pub record Halving (rows : List Row) (i k most low high start : ℕ) : Type 0 wh
   pub starts : (b : ℕ) → low ≤ b → Start (load (raised rows i b) k) start
 
 module _ (rows : List Row) (within : AllWithin rows) (i k : ℕ) (inside : i < length rows) (in-set : k < length rows) where
-  runs : (a : ℕ) → 1 ≤ rowAt (raised rows i a) k .C
+  pub runs : (a : ℕ) → 1 ≤ rowAt (raised rows i a) k .C
   runs a = omega (arith, within k in-set .runs, ap (λ (r : Row). r .C) (raised-row rows i a inside k))
 
   -- what a trial comes to, up to row k's deadline
@@ -52,11 +52,12 @@ module _ (rows : List Row) (within : AllWithin rows) (i k : ℕ) (inside : i < l
     up-to = omega arith;
     meets-low = none-meets;
     misses-high = outcome-of-trial most misses c;
-    starts = λ b h. response-starts rows i inside k R (within k in-set .runs) is-R b
+    starts = λ b h. response-starts rows i inside k R (within k in-set .runs) is-R b;
   }
     where
       none-meets : Meets (raised rows i 0) k
       none-meets = meets-with-none rows i inside k (runs 0) (record { response = R; is-response = is-R; by-deadline = by-deadline })
+
       go : (b : Bool) → leb most 0 ≡ b → 0 < most
       go true e = absurd (outcome-of-trial most misses c (subst (λ (a : ℕ). Meets (raised rows i a) k) (omega (arith, leb-true most 0 e)) none-meets))
       go false e = leb-false most 0 e
@@ -69,7 +70,7 @@ module _ (rows : List Row) (within : AllWithin rows) (i k : ℕ) (inside : i < l
       up-to = h .up-to;
       meets-low = trial-meets middle r c;
       misses-high = h .misses-high;
-      starts = λ b l. least-starts rows i inside middle b k r l (c .0)
+      starts = λ b l. least-starts rows i inside middle b k r l (c .0);
     }
 
     -- a trial that misses takes the higher raise down to it
@@ -79,7 +80,7 @@ module _ (rows : List Row) (within : AllWithin rows) (i k : ℕ) (inside : i < l
       up-to = omega (arith, h .up-to);
       meets-low = h .meets-low;
       misses-high = outcome-of-trial middle misses c;
-      starts = h .starts
+      starts = h .starts;
     }
 
   -- with nothing between the two, the lower is the largest
@@ -87,7 +88,7 @@ module _ (rows : List Row) (within : AllWithin rows) (i k : ℕ) (inside : i < l
   halving-ends most low high start h met = record {
     up-to = omega (arith, h .apart, h .up-to);
     meets = h .meets-low;
-    largest = λ b up-to m. go b m (leb b low) refl
+    largest = λ b up-to m. go b m (leb b low) refl;
   }
     where
       go : (b : ℕ) → Meets (raised rows i b) k → (t : Bool) → leb b low ≡ t → b ≤ low

@@ -50,7 +50,7 @@ module _ (cs ds ts : List ℕ) (shaped : Shaped cs ds ts) where
           some-row = omega (arith, shaped .some-row, same);
           no-25th = omega (arith, shaped .no-25th, same);
           as-many-deadlines = omega (arith, shaped .as-many-deadlines, same);
-          as-many-periods = omega (arith, shaped .as-many-periods, same)
+          as-many-periods = omega (arith, shaped .as-many-periods, same);
         }
 
     -- a raise that keeps C at most D

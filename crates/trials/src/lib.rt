@@ -9,7 +9,7 @@ ghost use Rattle.theory.specs.Allowance.{raised, IsAllowance};
 ghost use Rattle.theory.specs.Lists.{Shaped, rowsOf};
 ghost use Rattle.climbs.specs.Ranking.{rankingBy};
 ghost use Rattle.climbs.specs.Climb.{outcomeOf};
-ghost use Rattle.trials.specs.Trial.{RespondsInTime, LargestRaise};
+ghost use Rattle.trials.specs.Trial.{touchesBy, RespondsInTime, LargestRaise};
 use climbs::Climb;
 
 // C with row i's raised by a.
@@ -88,6 +88,17 @@ fn largest_raise(
     low
 }
 
+// Whether raising row i touches row k.
+fn touches(d: &[u32], i: usize, k: usize) -> bool
+    requires { ⌜ (i < length (now d)) × (k < length (now d)) × (length (now d) ≤ 24) ⌝ }
+    ensures { λ r. ⌜ r ≡ touchesBy (now (d .entry)) i k ⌝ }
+{
+    if k == i {
+        return true;
+    }
+    climbs::ranks_above(d[i], d[k], i, k)
+}
+
 // The allowance of row i.
 fn allowance_of(
     c: &[u32],
@@ -108,7 +119,7 @@ fn allowance_of(
     while 0 < j {
         j -= 1;
         let k = order[j];
-        if k == i || climbs::ranks_above(d[i], d[k], i, k) {
+        if touches(d, i, k) {
             allowed = largest_raise(c, d, t, order, i, k, response[k], allowed);
         }
     }

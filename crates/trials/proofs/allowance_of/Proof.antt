@@ -2,8 +2,8 @@ use Rattle.trials.proofs.allowance_of.Statement.{statement}
 use Rattle.trials.proofs.allowance_of.Tie as tie
 use Rattle.trials.proofs.allowance_of.Reads as reads
 use Rattle.trials.proofs.allowance_of.Lts as lts
-use Rattle.climbs.proofs.ranks_above.Reads as ranks-above-reads
 use Rattle.trials.proofs.largest_raise.Reads as largest-raise-reads
+use Rattle.trials.proofs.touches.Reads as touches-reads
 
 abbrev Inv-loop : tie.InvT-loop
 Inv-loop c d t order response i allowed₀ j₀ allowed j = ?
@@ -38,20 +38,8 @@ mul-k c = ?
 element-copy-out-k : tie.Need-element-copy-out-k Inv-loop μ-loop
 element-copy-out-k c = ?
 
-mul-ranks-above : tie.Need-mul-ranks-above Inv-loop μ-loop
-mul-ranks-above c = ?
-
-shared-slice-read-ranks-above : tie.Need-shared-slice-read-ranks-above Inv-loop μ-loop
-shared-slice-read-ranks-above c = ?
-
-mul-ranks-above-2 : tie.Need-mul-ranks-above-2 Inv-loop μ-loop
-mul-ranks-above-2 c = ?
-
-shared-slice-read-ranks-above-2 : tie.Need-shared-slice-read-ranks-above-2 Inv-loop μ-loop
-shared-slice-read-ranks-above-2 c = ?
-
-ranks-above-requires : tie.Need-ranks-above-requires Inv-loop μ-loop
-ranks-above-requires c κs = ?
+touches-requires : tie.Need-touches-requires Inv-loop μ-loop
+touches-requires c κs = ?
 
 mul-largest-raise : tie.Need-mul-largest-raise Inv-loop μ-loop
 mul-largest-raise c = ?
@@ -92,11 +80,7 @@ allowance-of-spec =
     sub-j
     mul-k
     element-copy-out-k
-    mul-ranks-above
-    shared-slice-read-ranks-above
-    mul-ranks-above-2
-    shared-slice-read-ranks-above-2
-    ranks-above-requires
+    touches-requires
     mul-largest-raise
     element-copy-out-largest-raise
     largest-raise-requires

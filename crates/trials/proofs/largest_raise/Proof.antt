@@ -92,11 +92,16 @@ trial-requires-2 c κs =
     let inside = in-rows cs ds ts (pre .0 .0) (pre .1 .1 .0 .0) in
     let in-set = in-rows cs ds ts (pre .0 .0) (pre .1 .1 .0 .1) in
     let low = c .before .loop .low in
-    let high = c .before .loop .high in
-    (pre .0,
-    (pre .1 .0,
-    ((pre .1 .1 .0 .0, pre .1 .1 .0 .1, omega (arith, pre .1 .1 .0 .2, c .before .loop .inv .up-to)),
-    c .before .loop .inv .starts (low + (high - low) / 2) (omega arith))))
+    let high = c .before .loop .high in (
+      pre .0,
+      (
+        pre .1 .0,
+        (
+          (pre .1 .1 .0 .0, pre .1 .1 .0 .1, omega (arith, pre .1 .1 .0 .2, c .before .loop .inv .up-to)),
+          c .before .loop .inv .starts (low + (high - low) / 2) (omega arith),
+        ),
+      ),
+    )
 
 enum-known-r : tie.Need-enum-known-r Inv-loop μ-loop
 enum-known-r c = search needs

@@ -18,9 +18,10 @@ use Rattle.trials.proofs.trial.Tie as tie
 raise-requires : tie.Need-raise-requires
 raise-requires c κs =
     let start = c .before .before .before in
-    let pre = start .pre in
-    ((pre .1 .1 .0 .0, pre .0 .0 .no-25th),
-    raised-small (start .args .c .now) (start .args .d .now) (start .args .t .now) (pre .0 .0) (pre .0 .1) (start .args .i) (pre .1 .1 .0 .0) (start .args .a) (pre .1 .1 .0 .2))
+    let pre = start .pre in (
+      (pre .1 .1 .0 .0, pre .0 .0 .no-25th),
+      raised-small (start .args .c .now) (start .args .d .now) (start .args .t .now) (pre .0 .0) (pre .0 .1) (start .args .i) (pre .1 .1 .0 .0) (start .args .a) (pre .1 .1 .0 .2),
+    )
 
 array-share-prefix-raised : tie.Need-array-share-prefix-raised
 array-share-prefix-raised c = search needs
@@ -42,13 +43,18 @@ climb-row-requires c κs =
     let k = start .args .k in
     subst
     (λ (xs : List ℕ).
-      (Shaped xs ds ts × AllWithin (rowsOf xs ds ts))
-      × ((take (length ds) (start .args .order .now) ≡ rankingBy ds) × ((k < length xs) × Start (load (rowsOf xs ds ts) k) (start .args .start))))
-    (sym (c .before .raise .ensures))
-    ((raised-shaped cs ds ts (pre .0 .0) (pre .0 .1) i (pre .1 .1 .0 .0) a, raised-list-within cs ds ts (pre .0 .0) (pre .0 .1) i (pre .1 .1 .0 .0) a (pre .1 .1 .0 .2)),
-    (pre .1 .0,
-    (omega (arith, pre .1 .1 .0 .1, length-set cs i (getD cs i 0 + a)),
-    subst (λ (rows : List Row). Start (load rows k) (start .args .start)) (raised-lists cs ds ts (pre .0 .0) (pre .0 .1) i (pre .1 .1 .0 .0) a) (pre .1 .1 .1))))
+    (Shaped xs ds ts × AllWithin (rowsOf xs ds ts))
+    × ((take (length ds) (start .args .order .now) ≡ rankingBy ds) × ((k < length xs) × Start (load (rowsOf xs ds ts) k) (start .args .start))))
+    (sym (c .before .raise .ensures)) (
+      (raised-shaped cs ds ts (pre .0 .0) (pre .0 .1) i (pre .1 .1 .0 .0) a, raised-list-within cs ds ts (pre .0 .0) (pre .0 .1) i (pre .1 .1 .0 .0) a (pre .1 .1 .0 .2)),
+      (
+        pre .1 .0,
+        (
+          omega (arith, pre .1 .1 .0 .1, length-set cs i (getD cs i 0 + a)),
+          subst (λ (rows : List Row). Start (load rows k) (start .args .start)) (raised-lists cs ds ts (pre .0 .0) (pre .0 .1) i (pre .1 .1 .0 .0) a) (pre .1 .1 .1),
+        ),
+      ),
+    )
 
 returns : tie.Need-returns
 returns c =

@@ -1,0 +1,112 @@
+-- The search for the allowance of row i over the rows by rank, from the lowest up: what holds after the rows from place j on, how it begins, goes on and ends.
+use mathlib.Core.Path.{_≡_, refl, sym, ap, _∙_, subst}
+use Prim.Native.Nat.{ℕ, _+_, _-_, _≤_, _<_}
+use mathlib.Core.Bool.{Bool, true, false, _||_}
+use mathlib.Core.Logic.{_⊎_, inl, inr, ⊎-elim}
+use mathlib.Core.List.{List}
+use native.Mathlib.Omega.{arith}
+use lib.Dec.{T, eqb}
+use lib.ListN.{length, getD, length-set}
+use Rattle.theory.specs.Row.{Row, rowAt, WithinLimits, AllWithin}
+use Rattle.theory.specs.Rank.{above}
+use Rattle.theory.specs.Response.{load, demand, own, IsResponse, Meets, AllMeet}
+use Rattle.theory.specs.Allowance.{longer, raised, IsAllowance}
+use Rattle.theory.specs.Points.{touches}
+use Rattle.theory.specs.Lists.{rowsOf, Shaped}
+use Rattle.theory.proofs.Tests.{equal-or-not}
+use Rattle.theory.proofs.Each.{T-true, T-false}
+use Rattle.theory.proofs.At.{StandsIn, stands-in, each-at}
+use Rattle.theory.proofs.Verdict.{within-steady}
+use Rattle.theory.proofs.Trial.{raise-bounded, meets-with-less, trial-allowance}
+use Rattle.climbs.specs.Ranking.{aboveBy, rankingBy}
+use Rattle.climbs.proofs.ByRank.{above-of-lists, ranking-inside, mem-ranking, length-ranking}
+use Rattle.trials.specs.Trial.{touchesBy, LargestRaise}
+use Rattle.trials.proofs.Raised.{in-rows, in-lists, execution-of, deadline-of}
+use Rattle.trials.proofs.Halving.{runs}
+
+module _ (cs ds ts : List ℕ) (shaped : Shaped cs ds ts) where
+  -- the row at a place by rank
+  abbrev pub ranked : ℕ → ℕ
+  ranked p = getD (rankingBy ds) p 0
+
+  pub ranked-inside : (p : ℕ) → p < length cs → ranked p < length cs
+  ranked-inside p h =
+      let inside : ranked p < length ds = each-at (λ x. x < length ds) (rankingBy ds) (ranking-inside ds) p (omega (arith, length-ranking ds, shaped .as-many-deadlines)) in
+      omega (arith, shaped .as-many-deadlines)
+
+  pub touches-of-lists : (i k : ℕ) → touches (rowsOf cs ds ts) i k ≡ touchesBy ds i k
+  touches-of-lists i k = ap (λ (relation : ℕ → ℕ → Bool). eqb k i || relation i k) (above-of-lists cs ds ts (shaped .as-many-deadlines) (shaped .as-many-periods))
+
+  -- after the rows from place j by rank on
+  pub record Searching (i allowed j : ℕ) : Type 0 where
+    pub places : j ≤ length cs
+    pub fits : getD cs i 0 + allowed ≤ getD ds i 0
+    pub met : (p : ℕ) → j ≤ p → p < length cs → T (touches (rowsOf cs ds ts) i (ranked p)) → Meets (raised (rowsOf cs ds ts) i allowed) (ranked p)
+    pub no-larger : (b : ℕ) → AllMeet (raised (rowsOf cs ds ts) i b) → b ≤ allowed
+
+  module _ (within : AllWithin (rowsOf cs ds ts)) (i : ℕ) (inside : i < length cs) where
+    in-set : i < length (rowsOf cs ds ts)
+    in-set = in-rows cs ds ts shaped inside
+
+    -- it begins with row i's distance to its deadline
+    pub searching-begins : (R : ℕ) → IsResponse (rowsOf cs ds ts) i R → R ≤ getD ds i 0 → Searching i (getD ds i 0 - R) (length cs)
+    unfolding load
+    searching-begins R is-R by-deadline = record {
+      places = omega arith;
+      fits = omega (arith, is-R .solves, execution-of cs ds ts shaped i);
+      met = λ p past h t. absurd (omega arith);
+      no-larger = λ b all.
+        let bounded = raise-bounded (rowsOf cs ds ts) i in-set b R (within i in-set .runs) is-R (all i (raised-in-set b)) in
+        omega (arith, deadline-of cs ds ts shaped i)
+    }
+      where
+        raised-in-set : (b : ℕ) → i < length (raised (rowsOf cs ds ts) i b)
+        raised-in-set b = subst (λ (n : ℕ). i < n) (sym (length-set (rowsOf cs ds ts) i (longer (rowAt (rowsOf cs ds ts) i) b))) in-set
+
+    module _ (allowed j : ℕ) (s : Searching i allowed j) (some : 0 < j) where
+      at : ℕ
+      at = ranked (j - 1)
+
+      at-in-set : at < length (rowsOf cs ds ts)
+      unfolding at
+      at-in-set = in-rows cs ds ts shaped (ranked-inside (j - 1) (omega (arith, s .places)))
+
+      -- a row that the raise touches lowers the allowance to the largest raise with which it meets
+      pub searching-lowers : (r : ℕ) → LargestRaise (rowsOf cs ds ts) i (ranked (j - 1)) allowed r → Searching i r (j - 1)
+      unfolding at
+      searching-lowers r l = record {
+        places = omega (arith, s .places);
+        fits = omega (arith, s .fits, l .up-to);
+        met = λ p past h t. go p h t (equal-or-not p (j - 1)) past;
+        no-larger = λ b all. l .largest b (s .no-larger b all) (all at (subst (λ (n : ℕ). at < n) (sym (length-set (rowsOf cs ds ts) i (longer (rowAt (rowsOf cs ds ts) i) b))) at-in-set))
+      }
+        where
+          go : (p : ℕ) → p < length cs → T (touches (rowsOf cs ds ts) i (ranked p)) → (p ≡ j - 1) ⊎ (p ≡ j - 1 → ⊥) → j - 1 ≤ p → Meets (raised (rowsOf cs ds ts) i r) (ranked p)
+          go p h t (inl e) past = subst (λ (x : ℕ). Meets (raised (rowsOf cs ds ts) i r) (ranked x)) (sym e) (l .meets)
+          go p h t (inr d) past =
+              let before : Meets (raised (rowsOf cs ds ts) i allowed) (ranked p) = s .met p (omega arith) h t in
+              meets-with-less (rowsOf cs ds ts) i in-set r allowed (ranked p) (runs (rowsOf cs ds ts) within i (ranked p) in-set (in-rows cs ds ts shaped (ranked-inside p h)) r) (l .up-to) before
+
+      -- another row is passed over
+      pub searching-passes : touchesBy ds i (ranked (j - 1)) ≡ false → Searching i allowed (j - 1)
+      searching-passes e = record {
+        places = omega (arith, s .places);
+        fits = s .fits;
+        met = λ p past h t. go p h t (equal-or-not p (j - 1)) past;
+        no-larger = s .no-larger
+      }
+        where
+          go : (p : ℕ) → p < length cs → T (touches (rowsOf cs ds ts) i (ranked p)) → (p ≡ j - 1) ⊎ (p ≡ j - 1 → ⊥) → j - 1 ≤ p → Meets (raised (rowsOf cs ds ts) i allowed) (ranked p)
+          go p h t (inl f) past =
+              absurd (T-false (touches (rowsOf cs ds ts) i (ranked (j - 1))) (touches-of-lists i (ranked (j - 1)) ∙ e) (subst (λ (x : ℕ). T (touches (rowsOf cs ds ts) i (ranked x))) f t))
+          go p h t (inr d) past = s .met p (omega arith) h t
+
+    -- after all rows what is left is the allowance
+    pub searching-ends : (allowed : ℕ) → Searching i allowed 0 → AllMeet (rowsOf cs ds ts) → IsAllowance (rowsOf cs ds ts) i allowed
+    searching-ends allowed s all =
+        trial-allowance (rowsOf cs ds ts) i in-set allowed (within-steady (rowsOf cs ds ts) within) all
+        (λ k h t.
+          let stands : StandsIn (rankingBy ds) k = stands-in (mem-ranking ds k (omega (arith, in-lists cs ds ts shaped h, shaped .as-many-deadlines))) in
+          subst (Meets (raised (rowsOf cs ds ts) i allowed)) (stands .there)
+          (s .met (stands .place) (omega arith) (omega (arith, stands .inside, length-ranking ds, shaped .as-many-deadlines)) (subst (λ (x : ℕ). T (touches (rowsOf cs ds ts) i x)) (sym (stands .there)) t)))
+        (s .no-larger)
