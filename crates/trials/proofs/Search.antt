@@ -6,7 +6,8 @@ use mathlib.Core.Logic.{_⊎_, inl, inr, ⊎-elim}
 use mathlib.Core.List.{List}
 use native.Mathlib.Omega.{arith}
 use lib.Dec.{T, eqb}
-use lib.ListN.{length, getD, length-set}
+use lib.ListN.{length, getD, take, length-set}
+use lib.Seq.{getD-take}
 use Rattle.theory.specs.Row.{Row, rowAt, WithinLimits, AllWithin}
 use Rattle.theory.specs.Rank.{above}
 use Rattle.theory.specs.Response.{load, demand, own, IsResponse, Meets, AllMeet}
@@ -33,6 +34,10 @@ module _ (cs ds ts : List ℕ) (shaped : Shaped cs ds ts) where
   ranked-inside p h =
       let inside : ranked p < length ds = each-at (λ x. x < length ds) (rankingBy ds) (ranking-inside ds) p (omega (arith, length-ranking ds, shaped .as-many-deadlines)) in
       omega (arith, shaped .as-many-deadlines)
+
+  -- an order that begins with the places by rank has them at its places
+  pub order-ranked : (order : List ℕ) → take (length ds) order ≡ rankingBy ds → (j : ℕ) → j < length cs → getD order j 0 ≡ ranked j
+  order-ranked order e j h = sym (getD-take (length ds) order j 0 (omega (arith, shaped .as-many-deadlines))) ∙ ap (λ (xs : List ℕ). getD xs j 0) e
 
   pub touches-of-lists : (i k : ℕ) → touches (rowsOf cs ds ts) i k ≡ touchesBy ds i k
   touches-of-lists i k = ap (λ (relation : ℕ → ℕ → Bool). eqb k i || relation i k) (above-of-lists cs ds ts (shaped .as-many-deadlines) (shaped .as-many-periods))

@@ -1,3 +1,13 @@
+-- `trials::allowance_of` meets its contract. The loop's invariant: every row from place j by rank on meets with what is left, and no larger raise leaves all rows
+-- meeting.
+use mathlib.Core.Path.{_≡_, refl, sym, ap, _∙_, subst}
+use Prim.Native.Nat.{ℕ, _+_, _-_, _≤_, _<_}
+use native.Mathlib.Omega.{arith}
+use Rattle.theory.specs.Lists.{rowsOf, Shaped}
+use lib.ListN.{length, getD}
+use Rattle.trials.specs.Trial.{touchesBy, LargestRaise}
+use Rattle.trials.proofs.Raised.{in-lists, deadline-of}
+use Rattle.trials.proofs.Search.{Searching, ranked, ranked-inside, order-ranked, searching-begins, searching-lowers, searching-passes, searching-ends}
 use Rattle.trials.proofs.allowance_of.Statement.{statement}
 use Rattle.trials.proofs.allowance_of.Tie as tie
 use Rattle.trials.proofs.allowance_of.Reads as reads
@@ -6,64 +16,169 @@ use Rattle.trials.proofs.largest_raise.Reads as largest-raise-reads
 use Rattle.trials.proofs.touches.Reads as touches-reads
 
 abbrev Inv-loop : tie.InvT-loop
-Inv-loop c d t order response i allowed₀ j₀ allowed j = ?
+Inv-loop c d t order response i allowed₀ j₀ allowed j = (shaped : Shaped c d t) → Searching c d t shaped i allowed j
 
 abbrev μ-loop : tie.MeasureT-loop
-μ-loop c d t order response i allowed₀ j₀ allowed j = ?
+μ-loop c d t order response i allowed₀ j₀ allowed j = j
 
 mul-allowed : tie.Need-mul-allowed Inv-loop μ-loop
-mul-allowed c = ?
+mul-allowed c = omega (arith, c .before .before .before .pre .0 .0 .no-25th)
 
 shared-slice-read-allowed : tie.Need-shared-slice-read-allowed Inv-loop μ-loop
-shared-slice-read-allowed c = ?
+shared-slice-read-allowed c = omega (arith, c .before .before .before .before .pre .0 .0 .as-many-deadlines)
 
 mul-allowed-2 : tie.Need-mul-allowed-2 Inv-loop μ-loop
-mul-allowed-2 c = ?
+mul-allowed-2 c = omega (arith, c .before .before .before .before .pre .0 .0 .no-25th)
 
 element-copy-out-allowed : tie.Need-element-copy-out-allowed Inv-loop μ-loop
-element-copy-out-allowed c = ?
+element-copy-out-allowed c = omega (arith, c .before .before .before .before .pre .0 .0 .no-25th)
 
 sub-allowed : tie.Need-sub-allowed Inv-loop μ-loop
-sub-allowed c = ?
+sub-allowed c =
+    let start = c .before .before .before .before .before in
+    let pre = start .pre in
+    let cs = start .args .c .now in
+    let ds = start .args .d .now in
+    let ts = start .args .t .now in
+    let order = start .args .order .now in
+    let i = start .args .i in
+    let shaped = pre .0 .0 in
+    omega (arith, pre .1 .1 .0 i (pre .1 .1 .1) .by-deadline, deadline-of cs ds ts shaped i)
 
 loop-holds : tie.Need-loop-holds Inv-loop μ-loop
-loop-holds c = ?
+loop-holds c = λ shaped.
+    let start = c .before .before .before .before .before in
+    let pre = start .pre in
+    let cs = start .args .c .now in
+    let ds = start .args .d .now in
+    let ts = start .args .t .now in
+    let i = start .args .i in
+    let responds = pre .1 .1 .0 i (pre .1 .1 .1) in
+    searching-begins cs ds ts shaped (pre .0 .1) i (pre .1 .1 .1) (getD (start .args .response .now) i 0) (responds .is-response) (omega (arith, responds .by-deadline, deadline-of cs ds ts shaped i))
 
 sub-j : tie.Need-sub-j Inv-loop μ-loop
-sub-j c = ?
+sub-j c = omega arith
 
 mul-k : tie.Need-mul-k Inv-loop μ-loop
-mul-k c = ?
+mul-k c = omega (arith, c .before .before .before .before .before .before .before .pre .0 .0 .no-25th, c .before .loop .inv (c .before .before .before .before .before .before .before .pre .0 .0) .places)
 
 element-copy-out-k : tie.Need-element-copy-out-k Inv-loop μ-loop
-element-copy-out-k c = ?
+element-copy-out-k c = omega (arith, c .before .before .before .before .before .before .before .pre .0 .0 .no-25th, c .before .loop .inv (c .before .before .before .before .before .before .before .pre .0 .0) .places)
 
 touches-requires : tie.Need-touches-requires Inv-loop μ-loop
-touches-requires c κs = ?
+touches-requires c κs =
+    let start = c .before .before .before .before .before .before .before .before in
+    let pre = start .pre in
+    let cs = start .args .c .now in
+    let ds = start .args .d .now in
+    let ts = start .args .t .now in
+    let order = start .args .order .now in
+    let i = start .args .i in
+    let shaped = pre .0 .0 in
+    let j = c .before .before .loop .j in
+    let s = c .before .before .loop .inv shaped in
+    let at : getD order (j - 1) 0 ≡ ranked cs ds ts shaped (j - 1) = order-ranked cs ds ts shaped order (pre .1 .0) (j - 1) (omega (arith, s .places)) in
+    let at-inside : getD order (j - 1) 0 < length cs = subst (λ (x : ℕ). x < length cs) (sym at) (ranked-inside cs ds ts shaped (j - 1) (omega (arith, s .places))) in
+    (omega (arith, pre .1 .1 .1, shaped .as-many-deadlines), omega (arith, shaped .as-many-deadlines), omega (arith, shaped .as-many-deadlines, shaped .no-25th))
 
 mul-largest-raise : tie.Need-mul-largest-raise Inv-loop μ-loop
-mul-largest-raise c = ?
+mul-largest-raise c =
+    let start = c .before .before .before .before .before .before .before .before .before .before in
+    let pre = start .pre in
+    let cs = start .args .c .now in
+    let ds = start .args .d .now in
+    let ts = start .args .t .now in
+    let order = start .args .order .now in
+    let i = start .args .i in
+    let shaped = pre .0 .0 in
+    let j = c .before .before .before .before .loop .j in
+    let s = c .before .before .before .before .loop .inv shaped in
+    let at : getD order (j - 1) 0 ≡ ranked cs ds ts shaped (j - 1) = order-ranked cs ds ts shaped order (pre .1 .0) (j - 1) (omega (arith, s .places)) in
+    let at-inside : getD order (j - 1) 0 < length cs = subst (λ (x : ℕ). x < length cs) (sym at) (ranked-inside cs ds ts shaped (j - 1) (omega (arith, s .places))) in
+    omega (arith, at-inside, shaped .no-25th)
 
 element-copy-out-largest-raise : tie.Need-element-copy-out-largest-raise Inv-loop μ-loop
-element-copy-out-largest-raise c = ?
+element-copy-out-largest-raise c =
+    let start = c .before .before .before .before .before .before .before .before .before .before in
+    let pre = start .pre in
+    let cs = start .args .c .now in
+    let ds = start .args .d .now in
+    let ts = start .args .t .now in
+    let order = start .args .order .now in
+    let i = start .args .i in
+    let shaped = pre .0 .0 in
+    let j = c .before .before .before .before .loop .j in
+    let s = c .before .before .before .before .loop .inv shaped in
+    let at : getD order (j - 1) 0 ≡ ranked cs ds ts shaped (j - 1) = order-ranked cs ds ts shaped order (pre .1 .0) (j - 1) (omega (arith, s .places)) in
+    let at-inside : getD order (j - 1) 0 < length cs = subst (λ (x : ℕ). x < length cs) (sym at) (ranked-inside cs ds ts shaped (j - 1) (omega (arith, s .places))) in
+    omega (arith, at-inside, shaped .no-25th)
 
 largest-raise-requires : tie.Need-largest-raise-requires Inv-loop μ-loop
-largest-raise-requires c κs = ?
+largest-raise-requires c κs =
+    let start = c .before .before .before .before .before .before .before .before .before .before .before in
+    let pre = start .pre in
+    let cs = start .args .c .now in
+    let ds = start .args .d .now in
+    let ts = start .args .t .now in
+    let order = start .args .order .now in
+    let i = start .args .i in
+    let shaped = pre .0 .0 in
+    let j = c .before .before .before .before .before .loop .j in
+    let s = c .before .before .before .before .before .loop .inv shaped in
+    let at : getD order (j - 1) 0 ≡ ranked cs ds ts shaped (j - 1) = order-ranked cs ds ts shaped order (pre .1 .0) (j - 1) (omega (arith, s .places)) in
+    let at-inside : getD order (j - 1) 0 < length cs = subst (λ (x : ℕ). x < length cs) (sym at) (ranked-inside cs ds ts shaped (j - 1) (omega (arith, s .places))) in
+    let responds = pre .1 .1 .0 (getD order (j - 1) 0) at-inside in
+    (pre .0,
+    (pre .1 .0,
+    ((pre .1 .1 .1, at-inside, s .fits), (responds .is-response, omega (arith, responds .by-deadline, deadline-of cs ds ts shaped (getD order (j - 1) 0))))))
 
 loop-less : tie.Need-loop-less Inv-loop μ-loop
-loop-less c = ?
+loop-less c = omega arith
 
 loop-again : tie.Need-loop-again Inv-loop μ-loop
-loop-again c = ?
+loop-again c = λ shaped.
+    let start = c .before .before .before .before .before .before .before .before .before .before .before .before in
+    let pre = start .pre in
+    let cs = start .args .c .now in
+    let ds = start .args .d .now in
+    let ts = start .args .t .now in
+    let i = start .args .i in
+    let h = c .before .before .before .before .before .before .loop in
+    let s = h .inv shaped in
+    searching-lowers cs ds ts shaped (pre .0 .1) i (pre .1 .1 .1) (h .allowed) (h .j) s (omega arith) (c .largest-raise .result)
+    (subst (λ (k : ℕ). LargestRaise (rowsOf cs ds ts) i k (h .allowed) (c .largest-raise .result)) (order-ranked cs ds ts shaped (start .args .order .now) (pre .1 .0) (h .j - 1) (omega (arith, s .places))) (c .largest-raise .ensures))
 
 loop-less-2 : tie.Need-loop-less-2 Inv-loop μ-loop
-loop-less-2 c = ?
+loop-less-2 c = omega arith
 
 loop-again-2 : tie.Need-loop-again-2 Inv-loop μ-loop
-loop-again-2 c = ?
+loop-again-2 c = λ shaped.
+    let start = c .before .before .before .before .before .before .before .before .before .before in
+    let pre = start .pre in
+    let cs = start .args .c .now in
+    let ds = start .args .d .now in
+    let ts = start .args .t .now in
+    let i = start .args .i in
+    let h = c .before .before .before .before .loop in
+    let s = h .inv shaped in
+    searching-passes cs ds ts shaped (pre .0 .1) i (pre .1 .1 .1) (h .allowed) (h .j) s (omega arith)
+    (ap (touchesBy ds i) (sym (order-ranked cs ds ts shaped (start .args .order .now) (pre .1 .0) (h .j - 1) (omega (arith, s .places)))) ∙ sym (c .before .touches .ensures) ∙ c .if1 .left)
 
 returns : tie.Need-returns Inv-loop μ-loop
-returns c = ?
+returns c =
+    let start = c .before .before .before .before .before .before .before in
+    let pre = start .pre in
+    let cs = start .args .c .now in
+    let ds = start .args .d .now in
+    let ts = start .args .t .now in
+    let i = start .args .i in
+    let shaped = pre .0 .0 in
+    let h = c .before .loop in
+    let none-left : h .j ≡ 0 = omega arith in
+    searching-ends cs ds ts shaped (pre .0 .1) i (pre .1 .1 .1) (h .allowed) (subst (Searching cs ds ts shaped i (h .allowed)) none-left (h .inv shaped))
+    (λ k inside.
+      let responds = pre .1 .1 .0 k (in-lists cs ds ts shaped inside) in
+      record { response = getD (start .args .response .now) k 0; is-response = responds .is-response; by-deadline = responds .by-deadline })
 
 pub allowance-of-spec : {M : Type 1} → statement M
 allowance-of-spec =
