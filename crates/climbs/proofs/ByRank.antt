@@ -15,10 +15,10 @@ use Rattle.theory.specs.Rank.{above, rivals, levels}
 use Rattle.theory.specs.Lists.{rowsOf}
 use Rattle.theory.proofs.Each.{All, all-map, all-sort, all-upFrom, all-kept}
 use Rattle.theory.proofs.Member.{mem-sort, mem-upFrom, length-sort, length-upFrom}
-use Rattle.theory.proofs.Order.{Ordered, upFrom-ascending, sort-ordered}
+use Rattle.theory.proofs.Order.{Ordered, ordered-distinct, upFrom-ascending, sort-ordered}
 use Rattle.theory.proofs.Kept.{length-keep-le, keep-sort}
 use Rattle.theory.proofs.RowsOf.{rows-of-length, row-of-lists}
-use Rattle.theory.proofs.Rank.{above-transitive, above-connected}
+use Rattle.theory.proofs.Rank.{above-transitive, above-connected, rival-irreflexive}
 use Rattle.climbs.specs.Ranking.{aboveBy, rankingBy, rivalsIn}
 
 -- rank among the rows is rank by their deadlines
@@ -33,11 +33,17 @@ module _ (ds : List ℕ) where
   by-rows : (P : (ℕ → ℕ → Bool) → Type 0) → ((rows : List Row) → P (above rows)) → P (aboveBy ds)
   by-rows P among-rows = subst P (above-of-lists ds ds ds refl refl) (among-rows (rowsOf ds ds ds))
 
+  -- a row above a row that ranks above z ranks above z
   pub above-by-transitive : (x y z : ℕ) → T (aboveBy ds x y) → T (aboveBy ds y z) → T (aboveBy ds x z)
   above-by-transitive = by-rows (λ above-of. (x y z : ℕ) → T (above-of x y) → T (above-of y z) → T (above-of x z)) above-transitive
 
+  -- of two different rows one ranks above the other
   pub above-by-connected : (x y : ℕ) → (x ≡ y → ⊥) → T (aboveBy ds x y) ⊎ T (aboveBy ds y x)
   above-by-connected = by-rows (λ above-of. (x y : ℕ) → (x ≡ y → ⊥) → T (above-of x y) ⊎ T (above-of y x)) above-connected
+
+  -- no row ranks above itself
+  pub above-by-irreflexive : (x : ℕ) → T (aboveBy ds x x) → ⊥
+  above-by-irreflexive = by-rows (λ above-of. (x : ℕ) → T (above-of x x) → ⊥) rival-irreflexive
 
   -- each place by rank is a row's
   pub ranking-inside : All (λ h. h < length ds) (rankingBy ds)
@@ -61,6 +67,10 @@ module _ (ds : List ℕ) where
   ranking-ordered =
       sort-ordered (aboveBy ds) above-by-transitive (λ x y l. above-by-connected x y (λ e. omega arith)) (upFrom 0 (length ds)) (upFrom-ascending 0 (length ds))
 
+  -- none stands there twice
+  pub ranking-distinct : Ordered (λ x y. x ≡ y → ⊥) (rankingBy ds)
+  ranking-distinct = ordered-distinct (λ x y. T (aboveBy ds x y)) (rankingBy ds) above-by-irreflexive ranking-ordered
+
   -- each rival is a row's place, and ranks above row k
   pub all-rivals-in : (k : ℕ) → All (λ h. (h < length ds) × T (aboveBy ds h k)) (rivalsIn (rankingBy ds) ds k)
   unfolding rivalsIn
@@ -72,10 +82,11 @@ module _ (ds : List ℕ) where
   few-rivals-in k = le-trans (length-keep-le (λ h. aboveBy ds h k) (rankingBy ds)) (le-of-eq length-ranking)
 
 module _ (cs ds ts : List ℕ) (as-many-deadlines : length ds ≡ length cs) (as-many-periods : length ts ≡ length cs) where
+  -- the rows that the lists are
   abbrev rows : List Row
   rows = rowsOf cs ds ts
 
-  -- the rivals of row k by rank
+  -- the rivals of row k taken from the places by rank are its rivals in the order of rank
   pub rivals-by-rank : (k : ℕ) → rivalsIn (rankingBy ds) ds k ≡ sort (above rows) (rivals rows k)
   unfolding rivalsIn rankingBy rivals
   rivals-by-rank k =

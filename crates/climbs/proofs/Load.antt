@@ -1,4 +1,5 @@
--- The load of a row over rows above it, as lists of C and T: it grows with time, and over the rivals of a row it is the row's load.
+-- The load of a row over rows above it, as lists of C and T: it grows with time, and over the rivals of a row it is the row's load. The levels of a row's
+-- walk as rows of such lists.
 use mathlib.Core.Path.{_≡_, refl, sym, _∙_, ap, ap₂, subst, fun-ext}
 use Prim.Native.Nat.{ℕ, zero, suc, _+_, _*_, _≤_, _<_}
 use mathlib.Core.List.{List, [], _∷_, map}
@@ -8,7 +9,7 @@ use lib.Dec.{T}
 use lib.ListN.{length, getD, length-map}
 use Rattle.theory.specs.Row.{Row, rowAt, WithinLimits, AllWithin}
 use Rattle.theory.specs.Gather.{sum}
-use Rattle.theory.specs.Rank.{above, rivals}
+use Rattle.theory.specs.Rank.{above, rivals, levels}
 use Rattle.theory.specs.Response.{ceil, demand, load}
 use Rattle.theory.specs.Lists.{Shaped, rowsOf}
 use Rattle.theory.proofs.Member.{all-at, mem-getD}
@@ -18,7 +19,7 @@ use Rattle.theory.proofs.Sum.{sum-sort}
 use Rattle.theory.proofs.RowsOf.{rows-of-length, row-of-lists}
 use Rattle.demands.specs.Levels.{demandOf, loadOf, Small}
 use Rattle.climbs.specs.Ranking.{aboveBy, rankingBy, rivalsIn}
-use Rattle.climbs.proofs.ByRank.{all-rivals-in, few-rivals-in, rivals-by-rank}
+use Rattle.climbs.proofs.ByRank.{all-rivals-in, few-rivals-in, rivals-by-rank, levels-of-lists}
 
 -- what rows ask for grows with time
 pub demand-of-mono : (cs ts : List ℕ) (s t : ℕ) → s ≤ t → demandOf cs ts s ≤ demandOf cs ts t
@@ -52,6 +53,7 @@ entry-at xs (h ∷ hs) zero inside = refl
 entry-at xs (h ∷ hs) (suc j) inside = entry-at xs hs j (omega arith)
 
 module _ (cs ds ts : List ℕ) (shaped : Shaped cs ds ts) where
+  -- the rows that the lists are
   abbrev rows : List Row
   rows = rowsOf cs ds ts
 
@@ -69,6 +71,16 @@ module _ (cs ds ts : List ℕ) (shaped : Shaped cs ds ts) where
           demand-of-entries cs ts (rivalsIn (rankingBy ds) ds k) t
           ∙ ap₂ sum (fun-ext (λ h. ap (λ (row : Row). ask row t) (sym (row-at h)))) (rivals-by-rank cs ds ts (shaped .as-many-deadlines) (shaped .as-many-periods) k)
           ∙ sum-sort (λ h. ask (rowAt rows h) t) (above rows) (rivals rows k)
+
+  -- rows at places are rows of entries
+  rows-at : (hs : List ℕ) → map (rowAt rows) hs ≡ rowsOf (entriesAt cs hs) (entriesAt ds hs) (entriesAt ts hs)
+  unfolding rowsOf
+  rows-at [] = refl
+  rows-at (h ∷ hs) = ap₂ (λ (row : Row) (others : List Row). row ∷ others) (row-at h) (rows-at hs)
+
+  -- the levels of row k's walk are the rows of its rivals' entries
+  pub levels-are-rows : (k : ℕ) → levels rows k ≡ rowsOf (rivalEntries cs ds k) (rivalEntries ds ds k) (rivalEntries ts ds k)
+  levels-are-rows k = levels-of-lists cs ds ts (shaped .as-many-deadlines) (shaped .as-many-periods) k ∙ rows-at (rivalsIn (rankingBy ds) ds k)
 
   module _ (within : AllWithin rows) where
     -- the numbers of a row keep the limits

@@ -42,6 +42,7 @@ length-keep-le test (x ∷ xs) =
     keep-cases (λ zs. length zs ≤ suc (length xs)) test x xs (λ e. omega (arith, length-keep-le test xs)) (λ e. omega (arith, length-keep-le test xs))
 
 module _ (test : ℕ → Bool) (xs : List ℕ) (j : ℕ) (inside : j < length xs) where
+  -- of one entry more, what is kept of it comes last
   keep-next : keep test (take (j + 1) xs) ≡ keep test (take j xs) ++ keep test (getD xs j 0 ∷ [])
   keep-next = rw (add-one j, take-suc xs j 0 inside) (keep-append test (take j xs) (getD xs j 0 ∷ []))
 
