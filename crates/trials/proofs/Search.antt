@@ -61,8 +61,8 @@ module _ (cs ds ts : List ℕ) (shaped : Shaped cs ds ts) where
       fits = omega (arith, is-R .solves, execution-of cs ds ts shaped i);
       met = λ p past h t. absurd (omega arith);
       no-larger = λ b all.
-        let bounded = raise-bounded (rowsOf cs ds ts) i in-set b R (within i in-set .runs) is-R (all i (raised-in-set b)) in
-        omega (arith, deadline-of cs ds ts shaped i)
+          let bounded = raise-bounded (rowsOf cs ds ts) i in-set b R (within i in-set .runs) is-R (all i (raised-in-set b)) in
+          omega (arith, deadline-of cs ds ts shaped i);
     }
       where
         raised-in-set : (b : ℕ) → i < length (raised (rowsOf cs ds ts) i b)
@@ -83,7 +83,7 @@ module _ (cs ds ts : List ℕ) (shaped : Shaped cs ds ts) where
         places = omega (arith, s .places);
         fits = omega (arith, s .fits, l .up-to);
         met = λ p past h t. go p h t (equal-or-not p (j - 1)) past;
-        no-larger = λ b all. l .largest b (s .no-larger b all) (all at (subst (λ (n : ℕ). at < n) (sym (length-set (rowsOf cs ds ts) i (longer (rowAt (rowsOf cs ds ts) i) b))) at-in-set))
+        no-larger = λ b all. l .largest b (s .no-larger b all) (all at (subst (λ (n : ℕ). at < n) (sym (length-set (rowsOf cs ds ts) i (longer (rowAt (rowsOf cs ds ts) i) b))) at-in-set));
       }
         where
           go : (p : ℕ) → p < length cs → T (touches (rowsOf cs ds ts) i (ranked p)) → (p ≡ j - 1) ⊎ (p ≡ j - 1 → ⊥) → j - 1 ≤ p → Meets (raised (rowsOf cs ds ts) i r) (ranked p)
@@ -98,7 +98,7 @@ module _ (cs ds ts : List ℕ) (shaped : Shaped cs ds ts) where
         places = omega (arith, s .places);
         fits = s .fits;
         met = λ p past h t. go p h t (equal-or-not p (j - 1)) past;
-        no-larger = s .no-larger
+        no-larger = s .no-larger;
       }
         where
           go : (p : ℕ) → p < length cs → T (touches (rowsOf cs ds ts) i (ranked p)) → (p ≡ j - 1) ⊎ (p ≡ j - 1 → ⊥) → j - 1 ≤ p → Meets (raised (rowsOf cs ds ts) i allowed) (ranked p)
@@ -111,7 +111,7 @@ module _ (cs ds ts : List ℕ) (shaped : Shaped cs ds ts) where
     searching-ends allowed s all =
         trial-allowance (rowsOf cs ds ts) i in-set allowed (within-steady (rowsOf cs ds ts) within) all
         (λ k h t.
-          let stands : StandsIn (rankingBy ds) k = stands-in (mem-ranking ds k (omega (arith, in-lists cs ds ts shaped h, shaped .as-many-deadlines))) in
-          subst (Meets (raised (rowsOf cs ds ts) i allowed)) (stands .there)
-          (s .met (stands .place) (omega arith) (omega (arith, stands .inside, length-ranking ds, shaped .as-many-deadlines)) (subst (λ (x : ℕ). T (touches (rowsOf cs ds ts) i x)) (sym (stands .there)) t)))
+        let stands : StandsIn (rankingBy ds) k = stands-in (mem-ranking ds k (omega (arith, in-lists cs ds ts shaped h, shaped .as-many-deadlines))) in
+        subst (Meets (raised (rowsOf cs ds ts) i allowed)) (stands .there)
+        (s .met (stands .place) (omega arith) (omega (arith, stands .inside, length-ranking ds, shaped .as-many-deadlines)) (subst (λ (x : ℕ). T (touches (rowsOf cs ds ts) i x)) (sym (stands .there)) t)))
         (s .no-larger)

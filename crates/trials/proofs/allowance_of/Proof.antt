@@ -127,10 +127,13 @@ largest-raise-requires c κs =
     let s = c .before .before .before .before .before .loop .inv shaped in
     let at : getD order (j - 1) 0 ≡ ranked cs ds ts shaped (j - 1) = order-ranked cs ds ts shaped order (pre .1 .0) (j - 1) (omega (arith, s .places)) in
     let at-inside : getD order (j - 1) 0 < length cs = subst (λ (x : ℕ). x < length cs) (sym at) (ranked-inside cs ds ts shaped (j - 1) (omega (arith, s .places))) in
-    let responds = pre .1 .1 .0 (getD order (j - 1) 0) at-inside in
-    (pre .0,
-    (pre .1 .0,
-    ((pre .1 .1 .1, at-inside, s .fits), (responds .is-response, omega (arith, responds .by-deadline, deadline-of cs ds ts shaped (getD order (j - 1) 0))))))
+    let responds = pre .1 .1 .0 (getD order (j - 1) 0) at-inside in (
+      pre .0,
+      (
+        pre .1 .0,
+        ((pre .1 .1 .1, at-inside, s .fits), (responds .is-response, omega (arith, responds .by-deadline, deadline-of cs ds ts shaped (getD order (j - 1) 0)))),
+      ),
+    )
 
 loop-less : tie.Need-loop-less Inv-loop μ-loop
 loop-less c = omega arith
@@ -177,8 +180,8 @@ returns c =
     let none-left : h .j ≡ 0 = omega arith in
     searching-ends cs ds ts shaped (pre .0 .1) i (pre .1 .1 .1) (h .allowed) (subst (Searching cs ds ts shaped i (h .allowed)) none-left (h .inv shaped))
     (λ k inside.
-      let responds = pre .1 .1 .0 k (in-lists cs ds ts shaped inside) in
-      record { response = getD (start .args .response .now) k 0; is-response = responds .is-response; by-deadline = responds .by-deadline })
+    let responds = pre .1 .1 .0 k (in-lists cs ds ts shaped inside) in
+    record { response = getD (start .args .response .now) k 0; is-response = responds .is-response; by-deadline = responds .by-deadline })
 
 pub allowance-of-spec : {M : Type 1} → statement M
 allowance-of-spec =

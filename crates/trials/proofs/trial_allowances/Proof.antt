@@ -42,12 +42,13 @@ loop-again c =
     let allowed = c .before .before .loop .allowed in
     let inv = c .before .before .loop .inv in
     let number = c .allowance-of .result in
-    let rows = rowsOf (start .args .c .now) (start .args .d .now) (start .args .t .now) in
-    (omega arith,
-    length-set allowed i number ∙ inv .1,
-    below-more _ _
-    (λ k h. subst (IsAllowance rows k) (sym (getD-set-other allowed i k number 0 (λ e. omega arith))) (inv .2 k h))
-    (subst (IsAllowance rows i) (sym (getD-set-same allowed i number 0 (omega (arith, inv .1, start .pre .0 .0 .no-25th)))) (c .allowance-of .ensures)))
+    let rows = rowsOf (start .args .c .now) (start .args .d .now) (start .args .t .now) in (
+      omega arith,
+      length-set allowed i number ∙ inv .1,
+      below-more _ _
+          (λ k h. subst (IsAllowance rows k) (sym (getD-set-other allowed i k number 0 (λ e. omega arith))) (inv .2 k h))
+          (subst (IsAllowance rows i) (sym (getD-set-same allowed i number 0 (omega (arith, inv .1, start .pre .0 .0 .no-25th)))) (c .allowance-of .ensures)),
+    )
 
 returns : tie.Need-returns Inv-loop μ-loop
 returns c = λ i h. c .before .loop .inv .2 i (omega arith)
