@@ -3,3 +3,4 @@ pub mod Gathering
 pub mod ByRank
 pub mod Load
 pub mod Held
+pub mod InLists

@@ -1,5 +1,4 @@
 -- The outcome of a climb, as the code's answer.
-use Prim.Native.Nat.{ℕ}
 use Rattle.theory.specs.Response.{Outcome, responds, misses}
 use Rattle.climbs.specs.declared.Climb.{Climb}
 use Rattle.climbs.specs.declared.Climb.the-variants.{Responds, Misses}

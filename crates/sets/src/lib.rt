@@ -1,54 +1,10 @@
 // The set service and the point service: document 01, one core's rows as three lists of 32-bit numbers, response times and allowances in two lent lists.
 ghost use mathlib.Core.Path.{_≡_};
-ghost use Prim.Native.Nat.{ℕ, _≤_, _<_};
-ghost use lib.ListN.{length, getD, take, drop};
-ghost use Rattle.theory.specs.Row.{AllWithin};
-ghost use Rattle.theory.specs.Lists.{filled, Shaped, rowsOf, SetAnswered, PointAnswered};
-ghost use Rattle.climbs.specs.Ranking.{rankingBy};
-ghost use Rattle.sets.specs.Verdict.{IsVerdict};
-use climbs::Climb;
+ghost use Prim.Native.Nat.{_≤_};
+ghost use lib.ListN.{length};
+ghost use Rattle.theory.specs.Lists.{filled, SetAnswered, PointAnswered};
+use responses::Verdict;
 use theory::Answer;
-
-// Whether all rows are on time, or the place of the highest-ranked row that misses.
-pub enum Verdict {
-    OnTime,
-    Late(usize),
-}
-
-// A verdict, and where it is on time the response time of each row at its place.
-pub struct Found {
-    pub verdict: Verdict,
-    pub response: [u32; 24],
-}
-
-// The response time of each row, or the highest-ranked row that misses.
-pub fn responses_of(c: &[u32], d: &[u32], t: &[u32], order: &[usize; 24]) -> Found
-    requires { ⌜ Shaped (now c) (now d) (now t) × AllWithin (rowsOf (now c) (now d) (now t)) ⌝ }
-    requires { ⌜ take (length (now d)) (now order) ≡ rankingBy (now d) ⌝ }
-    ensures { λ r. ⌜ IsVerdict (rowsOf (now (c .entry)) (now (d .entry)) (now (t .entry))) (r .response) (r .verdict) ⌝ }
-{
-    let mut response = [0u32; 24];
-    let mut j = 0;
-    while j < c.len() {
-        let k = order[j];
-        match climbs::climb_row(c, d, t, order, k, 1) {
-            Climb::Responds(r) => {
-                response[k] = r;
-            }
-            Climb::Misses => {
-                return Found {
-                    verdict: Verdict::Late(k),
-                    response,
-                };
-            }
-        }
-        j += 1;
-    }
-    Found {
-        verdict: Verdict::OnTime,
-        response,
-    }
-}
 
 // Fills the front of a lent list with numbers.
 fn fill(list: &mut [u32], numbers: &[u32])
@@ -78,7 +34,7 @@ pub fn set_service(
     };
     let n = c.len();
     let order = climbs::ranking(d);
-    let found = responses_of(c, d, t, &order);
+    let found = responses::responses_of(c, d, t, &order);
     let verdict = found.verdict;
     if let Verdict::Late(k) = verdict {
         return Answer::RowMisses(k as u32 + 1);
@@ -106,7 +62,7 @@ pub fn point_service(
     };
     let n = c.len();
     let order = climbs::ranking(d);
-    let found = responses_of(c, d, t, &order);
+    let found = responses::responses_of(c, d, t, &order);
     let verdict = found.verdict;
     if let Verdict::Late(k) = verdict {
         return Answer::RowMisses(k as u32 + 1);

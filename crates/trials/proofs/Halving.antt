@@ -9,9 +9,8 @@ use lib.Dec.{leb}
 use lib.ListN.{length}
 use Rattle.theory.specs.Row.{Row, rowAt, AllWithin}
 use Rattle.theory.specs.Response.{load, IsResponse, Meets, Outcome, responds, misses, IsOutcome}
-use Rattle.theory.specs.Climb.{Start, LeastRoom, Climbed}
+use Rattle.theory.specs.Climb.{Start, Climbed}
 use Rattle.theory.specs.Allowance.{raised}
-use Rattle.theory.proofs.Sum.{only}
 use Rattle.theory.proofs.Response.{climbed-outcome}
 use Rattle.theory.proofs.Raise.{raised-row}
 use Rattle.theory.proofs.Trial.{meets-with-less, meets-with-none, response-starts, least-starts}

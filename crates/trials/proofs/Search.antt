@@ -1,44 +1,29 @@
 -- The search for the allowance of row i over the rows by rank, from the lowest up: what holds after the rows from place j on, how it begins, goes on and ends.
-use mathlib.Core.Path.{_≡_, refl, sym, ap, _∙_, subst}
+use mathlib.Core.Path.{_≡_, sym, ap, _∙_, subst}
 use Prim.Native.Nat.{ℕ, _+_, _-_, _≤_, _<_}
-use mathlib.Core.Bool.{Bool, true, false, _||_}
-use mathlib.Core.Logic.{_⊎_, inl, inr, ⊎-elim}
+use mathlib.Core.Bool.{Bool, false, _||_}
+use mathlib.Core.Logic.{_⊎_, inl, inr}
 use mathlib.Core.List.{List}
 use native.Mathlib.Omega.{arith}
 use lib.Dec.{T, eqb}
-use lib.ListN.{length, getD, take, length-set}
-use lib.Seq.{getD-take}
-use Rattle.theory.specs.Row.{Row, rowAt, WithinLimits, AllWithin}
-use Rattle.theory.specs.Rank.{above}
-use Rattle.theory.specs.Response.{load, demand, own, IsResponse, Meets, AllMeet}
+use lib.ListN.{length, getD, length-set}
+use Rattle.theory.specs.Row.{rowAt, AllWithin}
+use Rattle.theory.specs.Response.{load, IsResponse, Meets, AllMeet}
 use Rattle.theory.specs.Allowance.{longer, raised, IsAllowance}
 use Rattle.theory.specs.Points.{touches}
 use Rattle.theory.specs.Lists.{rowsOf, Shaped}
 use Rattle.theory.proofs.Tests.{equal-or-not}
-use Rattle.theory.proofs.Each.{T-true, T-false}
-use Rattle.theory.proofs.At.{StandsIn, stands-in, each-at}
+use Rattle.theory.proofs.Each.{T-false}
+use Rattle.theory.proofs.At.{StandsIn, stands-in}
 use Rattle.theory.proofs.Verdict.{within-steady}
 use Rattle.theory.proofs.Trial.{raise-bounded, meets-with-less, trial-allowance}
-use Rattle.climbs.specs.Ranking.{aboveBy, rankingBy}
-use Rattle.climbs.proofs.ByRank.{above-of-lists, ranking-inside, mem-ranking, length-ranking}
+use Rattle.climbs.specs.Ranking.{rankingBy}
+use Rattle.climbs.proofs.ByRank.{above-of-lists}
+use Rattle.climbs.proofs.InLists.{in-rows, in-lists, execution-of, deadline-of, ranked, ranked-in-lists}
 use Rattle.trials.specs.Trial.{touchesBy, LargestRaise}
-use Rattle.trials.proofs.Raised.{in-rows, in-lists, execution-of, deadline-of}
 use Rattle.trials.proofs.Halving.{runs}
 
 module _ (cs ds ts : List ℕ) (shaped : Shaped cs ds ts) where
-  -- the row at a place by rank
-  abbrev pub ranked : ℕ → ℕ
-  ranked p = getD (rankingBy ds) p 0
-
-  pub ranked-inside : (p : ℕ) → p < length cs → ranked p < length cs
-  ranked-inside p h =
-      let inside : ranked p < length ds = each-at (λ x. x < length ds) (rankingBy ds) (ranking-inside ds) p (omega (arith, length-ranking ds, shaped .as-many-deadlines)) in
-      omega (arith, shaped .as-many-deadlines)
-
-  -- an order that begins with the places by rank has them at its places
-  pub order-ranked : (order : List ℕ) → take (length ds) order ≡ rankingBy ds → (j : ℕ) → j < length cs → getD order j 0 ≡ ranked j
-  order-ranked order e j h = sym (getD-take (length ds) order j 0 (omega (arith, shaped .as-many-deadlines))) ∙ ap (λ (xs : List ℕ). getD xs j 0) e
-
   pub touches-of-lists : (i k : ℕ) → touches (rowsOf cs ds ts) i k ≡ touchesBy ds i k
   touches-of-lists i k = ap (λ (relation : ℕ → ℕ → Bool). eqb k i || relation i k) (above-of-lists cs ds ts (shaped .as-many-deadlines) (shaped .as-many-periods))
 
@@ -46,7 +31,7 @@ module _ (cs ds ts : List ℕ) (shaped : Shaped cs ds ts) where
   pub record Searching (i allowed j : ℕ) : Type 0 where
     pub places : j ≤ length cs
     pub fits : getD cs i 0 + allowed ≤ getD ds i 0
-    pub met : (p : ℕ) → j ≤ p → p < length cs → T (touches (rowsOf cs ds ts) i (ranked p)) → Meets (raised (rowsOf cs ds ts) i allowed) (ranked p)
+    pub met : (p : ℕ) → j ≤ p → p < length cs → T (touches (rowsOf cs ds ts) i (ranked cs ds ts shaped p)) → Meets (raised (rowsOf cs ds ts) i allowed) (ranked cs ds ts shaped p)
     pub no-larger : (b : ℕ) → AllMeet (raised (rowsOf cs ds ts) i b) → b ≤ allowed
 
   module _ (within : AllWithin (rowsOf cs ds ts)) (i : ℕ) (inside : i < length cs) where
@@ -70,14 +55,14 @@ module _ (cs ds ts : List ℕ) (shaped : Shaped cs ds ts) where
 
     module _ (allowed j : ℕ) (s : Searching i allowed j) (some : 0 < j) where
       at : ℕ
-      at = ranked (j - 1)
+      at = ranked cs ds ts shaped (j - 1)
 
       at-in-set : at < length (rowsOf cs ds ts)
       unfolding at
-      at-in-set = in-rows cs ds ts shaped (ranked-inside (j - 1) (omega (arith, s .places)))
+      at-in-set = in-rows cs ds ts shaped (ranked-in-lists cs ds ts shaped (j - 1) (omega (arith, s .places)))
 
       -- a row that the raise touches lowers the allowance to the largest raise with which it meets
-      pub searching-lowers : (r : ℕ) → LargestRaise (rowsOf cs ds ts) i (ranked (j - 1)) allowed r → Searching i r (j - 1)
+      pub searching-lowers : (r : ℕ) → LargestRaise (rowsOf cs ds ts) i (ranked cs ds ts shaped (j - 1)) allowed r → Searching i r (j - 1)
       unfolding at
       searching-lowers r l = record {
         places = omega (arith, s .places);
@@ -86,14 +71,14 @@ module _ (cs ds ts : List ℕ) (shaped : Shaped cs ds ts) where
         no-larger = λ b all. l .largest b (s .no-larger b all) (all at (subst (λ (n : ℕ). at < n) (sym (length-set (rowsOf cs ds ts) i (longer (rowAt (rowsOf cs ds ts) i) b))) at-in-set));
       }
         where
-          go : (p : ℕ) → p < length cs → T (touches (rowsOf cs ds ts) i (ranked p)) → (p ≡ j - 1) ⊎ (p ≡ j - 1 → ⊥) → j - 1 ≤ p → Meets (raised (rowsOf cs ds ts) i r) (ranked p)
-          go p h t (inl e) past = subst (λ (x : ℕ). Meets (raised (rowsOf cs ds ts) i r) (ranked x)) (sym e) (l .meets)
+          go : (p : ℕ) → p < length cs → T (touches (rowsOf cs ds ts) i (ranked cs ds ts shaped p)) → (p ≡ j - 1) ⊎ (p ≡ j - 1 → ⊥) → j - 1 ≤ p → Meets (raised (rowsOf cs ds ts) i r) (ranked cs ds ts shaped p)
+          go p h t (inl e) past = subst (λ (x : ℕ). Meets (raised (rowsOf cs ds ts) i r) (ranked cs ds ts shaped x)) (sym e) (l .meets)
           go p h t (inr d) past =
-              let before : Meets (raised (rowsOf cs ds ts) i allowed) (ranked p) = s .met p (omega arith) h t in
-              meets-with-less (rowsOf cs ds ts) i in-set r allowed (ranked p) (runs (rowsOf cs ds ts) within i (ranked p) in-set (in-rows cs ds ts shaped (ranked-inside p h)) r) (l .up-to) before
+              let before : Meets (raised (rowsOf cs ds ts) i allowed) (ranked cs ds ts shaped p) = s .met p (omega arith) h t in
+              meets-with-less (rowsOf cs ds ts) i in-set r allowed (ranked cs ds ts shaped p) (runs (rowsOf cs ds ts) within i (ranked cs ds ts shaped p) in-set (in-rows cs ds ts shaped (ranked-in-lists cs ds ts shaped p h)) r) (l .up-to) before
 
       -- another row is passed over
-      pub searching-passes : touchesBy ds i (ranked (j - 1)) ≡ false → Searching i allowed (j - 1)
+      pub searching-passes : touchesBy ds i (ranked cs ds ts shaped (j - 1)) ≡ false → Searching i allowed (j - 1)
       searching-passes e = record {
         places = omega (arith, s .places);
         fits = s .fits;
@@ -101,9 +86,9 @@ module _ (cs ds ts : List ℕ) (shaped : Shaped cs ds ts) where
         no-larger = s .no-larger;
       }
         where
-          go : (p : ℕ) → p < length cs → T (touches (rowsOf cs ds ts) i (ranked p)) → (p ≡ j - 1) ⊎ (p ≡ j - 1 → ⊥) → j - 1 ≤ p → Meets (raised (rowsOf cs ds ts) i allowed) (ranked p)
+          go : (p : ℕ) → p < length cs → T (touches (rowsOf cs ds ts) i (ranked cs ds ts shaped p)) → (p ≡ j - 1) ⊎ (p ≡ j - 1 → ⊥) → j - 1 ≤ p → Meets (raised (rowsOf cs ds ts) i allowed) (ranked cs ds ts shaped p)
           go p h t (inl f) past =
-              absurd (T-false (touches (rowsOf cs ds ts) i (ranked (j - 1))) (touches-of-lists i (ranked (j - 1)) ∙ e) (subst (λ (x : ℕ). T (touches (rowsOf cs ds ts) i (ranked x))) f t))
+              absurd (T-false (touches (rowsOf cs ds ts) i (ranked cs ds ts shaped (j - 1))) (touches-of-lists i (ranked cs ds ts shaped (j - 1)) ∙ e) (subst (λ (x : ℕ). T (touches (rowsOf cs ds ts) i (ranked cs ds ts shaped x))) f t))
           go p h t (inr d) past = s .met p (omega arith) h t
 
     -- after all rows what is left is the allowance
@@ -113,5 +98,5 @@ module _ (cs ds ts : List ℕ) (shaped : Shaped cs ds ts) where
         (λ k h t.
         let stands : StandsIn (rankingBy ds) k = stands-in (mem-ranking ds k (omega (arith, in-lists cs ds ts shaped h, shaped .as-many-deadlines))) in
         subst (Meets (raised (rowsOf cs ds ts) i allowed)) (stands .there)
-        (s .met (stands .place) (omega arith) (omega (arith, stands .inside, length-ranking ds, shaped .as-many-deadlines)) (subst (λ (x : ℕ). T (touches (rowsOf cs ds ts) i x)) (sym (stands .there)) t)))
+        (s .met (stands .place) (omega arith) (stands .inside) (subst (λ (x : ℕ). T (touches (rowsOf cs ds ts) i x)) (sym (stands .there)) t)))
         (s .no-larger)

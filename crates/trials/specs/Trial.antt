@@ -1,18 +1,12 @@
--- Response times in time, and the largest raise of one row with which another meets.
+-- What raising a row touches, and the largest raise of one row with which another meets.
 use Prim.Native.Nat.{ℕ, _≤_}
 use mathlib.Core.Bool.{Bool, _||_}
 use mathlib.Core.List.{List}
 use lib.Dec.{eqb}
-use lib.ListN.{getD}
-use Rattle.theory.specs.Row.{Row, rowAt}
-use Rattle.theory.specs.Response.{IsResponse, Meets}
+use Rattle.theory.specs.Row.{Row}
+use Rattle.theory.specs.Response.{Meets}
 use Rattle.theory.specs.Allowance.{raised}
 use Rattle.climbs.specs.Ranking.{aboveBy}
-
--- a list has at each row's place its response time, which is at most its deadline
-pub record RespondsInTime (rows : List Row) (responses : List ℕ) (k : ℕ) : Type 0 where
-  pub is-response : IsResponse rows k (getD responses k 0)
-  pub by-deadline : getD responses k 0 ≤ rowAt rows k .D
 
 -- raising row i touches row k, by their deadlines and places
 abbrev pub touchesBy : List ℕ → ℕ → ℕ → Bool

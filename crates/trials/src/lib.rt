@@ -9,7 +9,8 @@ ghost use Rattle.theory.specs.Allowance.{raised, IsAllowance};
 ghost use Rattle.theory.specs.Lists.{Shaped, rowsOf};
 ghost use Rattle.climbs.specs.Ranking.{rankingBy};
 ghost use Rattle.climbs.specs.Climb.{outcomeOf};
-ghost use Rattle.trials.specs.Trial.{touchesBy, RespondsInTime, LargestRaise};
+ghost use Rattle.responses.specs.Verdict.{RespondsInTime};
+ghost use Rattle.trials.specs.Trial.{touchesBy, LargestRaise};
 use climbs::Climb;
 
 // C with row i's raised by a.

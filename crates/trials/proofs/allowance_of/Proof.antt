@@ -1,13 +1,13 @@
 -- `trials::allowance_of` meets its contract. The loop's invariant: every row from place j by rank on meets with what is left, and no larger raise leaves all rows
 -- meeting.
-use mathlib.Core.Path.{_≡_, refl, sym, ap, _∙_, subst}
-use Prim.Native.Nat.{ℕ, _+_, _-_, _≤_, _<_}
+use mathlib.Core.Path.{_≡_, sym, ap, _∙_, subst}
+use Prim.Native.Nat.{ℕ, _-_, _<_}
 use native.Mathlib.Omega.{arith}
 use Rattle.theory.specs.Lists.{rowsOf, Shaped}
 use lib.ListN.{length, getD}
 use Rattle.trials.specs.Trial.{touchesBy, LargestRaise}
-use Rattle.trials.proofs.Raised.{in-lists, deadline-of}
-use Rattle.trials.proofs.Search.{Searching, ranked, ranked-inside, order-ranked, searching-begins, searching-lowers, searching-passes, searching-ends}
+use Rattle.climbs.proofs.InLists.{in-lists, deadline-of, ranked, ranked-in-lists, order-ranked}
+use Rattle.trials.proofs.Search.{Searching, searching-begins, searching-lowers, searching-passes, searching-ends}
 use Rattle.trials.proofs.allowance_of.Statement.{statement}
 use Rattle.trials.proofs.allowance_of.Tie as tie
 use Rattle.trials.proofs.allowance_of.Reads as reads
@@ -78,7 +78,7 @@ touches-requires c κs =
     let j = c .before .before .loop .j in
     let s = c .before .before .loop .inv shaped in
     let at : getD order (j - 1) 0 ≡ ranked cs ds ts shaped (j - 1) = order-ranked cs ds ts shaped order (pre .1 .0) (j - 1) (omega (arith, s .places)) in
-    let at-inside : getD order (j - 1) 0 < length cs = subst (λ (x : ℕ). x < length cs) (sym at) (ranked-inside cs ds ts shaped (j - 1) (omega (arith, s .places))) in
+    let at-inside : getD order (j - 1) 0 < length cs = subst (λ (x : ℕ). x < length cs) (sym at) (ranked-in-lists cs ds ts shaped (j - 1) (omega (arith, s .places))) in
     (omega (arith, pre .1 .1 .1, shaped .as-many-deadlines), omega (arith, shaped .as-many-deadlines), omega (arith, shaped .as-many-deadlines, shaped .no-25th))
 
 mul-largest-raise : tie.Need-mul-largest-raise Inv-loop μ-loop
@@ -94,7 +94,7 @@ mul-largest-raise c =
     let j = c .before .before .before .before .loop .j in
     let s = c .before .before .before .before .loop .inv shaped in
     let at : getD order (j - 1) 0 ≡ ranked cs ds ts shaped (j - 1) = order-ranked cs ds ts shaped order (pre .1 .0) (j - 1) (omega (arith, s .places)) in
-    let at-inside : getD order (j - 1) 0 < length cs = subst (λ (x : ℕ). x < length cs) (sym at) (ranked-inside cs ds ts shaped (j - 1) (omega (arith, s .places))) in
+    let at-inside : getD order (j - 1) 0 < length cs = subst (λ (x : ℕ). x < length cs) (sym at) (ranked-in-lists cs ds ts shaped (j - 1) (omega (arith, s .places))) in
     omega (arith, at-inside, shaped .no-25th)
 
 element-copy-out-largest-raise : tie.Need-element-copy-out-largest-raise Inv-loop μ-loop
@@ -110,7 +110,7 @@ element-copy-out-largest-raise c =
     let j = c .before .before .before .before .loop .j in
     let s = c .before .before .before .before .loop .inv shaped in
     let at : getD order (j - 1) 0 ≡ ranked cs ds ts shaped (j - 1) = order-ranked cs ds ts shaped order (pre .1 .0) (j - 1) (omega (arith, s .places)) in
-    let at-inside : getD order (j - 1) 0 < length cs = subst (λ (x : ℕ). x < length cs) (sym at) (ranked-inside cs ds ts shaped (j - 1) (omega (arith, s .places))) in
+    let at-inside : getD order (j - 1) 0 < length cs = subst (λ (x : ℕ). x < length cs) (sym at) (ranked-in-lists cs ds ts shaped (j - 1) (omega (arith, s .places))) in
     omega (arith, at-inside, shaped .no-25th)
 
 largest-raise-requires : tie.Need-largest-raise-requires Inv-loop μ-loop
@@ -126,7 +126,7 @@ largest-raise-requires c κs =
     let j = c .before .before .before .before .before .loop .j in
     let s = c .before .before .before .before .before .loop .inv shaped in
     let at : getD order (j - 1) 0 ≡ ranked cs ds ts shaped (j - 1) = order-ranked cs ds ts shaped order (pre .1 .0) (j - 1) (omega (arith, s .places)) in
-    let at-inside : getD order (j - 1) 0 < length cs = subst (λ (x : ℕ). x < length cs) (sym at) (ranked-inside cs ds ts shaped (j - 1) (omega (arith, s .places))) in
+    let at-inside : getD order (j - 1) 0 < length cs = subst (λ (x : ℕ). x < length cs) (sym at) (ranked-in-lists cs ds ts shaped (j - 1) (omega (arith, s .places))) in
     let responds = pre .1 .1 .0 (getD order (j - 1) 0) at-inside in (
       pre .0,
       (

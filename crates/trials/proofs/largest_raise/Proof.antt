@@ -1,6 +1,6 @@
 -- `trials::largest_raise` meets its contract. The loop's invariant: row k meets with the lower raise and misses with the higher.
-use mathlib.Core.Path.{_≡_, refl, sym, ap, _∙_, subst}
-use Prim.Native.Nat.{ℕ, _+_, _-_, _/_, _≤_, _<_}
+use mathlib.Core.Path.{ap}
+use Prim.Native.Nat.{_+_, _-_, _/_}
 use native.Mathlib.Omega.{arith}
 use borrow.Author.Needs.{needs}
 use Rattle.theory.specs.Lists.{rowsOf}
@@ -8,7 +8,7 @@ use Rattle.theory.specs.Response.{load, responds, misses}
 use Rattle.theory.specs.Allowance.{raised}
 use Rattle.theory.proofs.Trial.{response-starts}
 use Rattle.climbs.specs.Climb.{outcomeOf}
-use Rattle.trials.proofs.Raised.{in-rows, deadline-of, climb-said}
+use Rattle.climbs.proofs.InLists.{in-rows, deadline-of, climb-said}
 use Rattle.trials.proofs.Halving.{Halving, most-meets, halving-begins, halving-upper, halving-lower, halving-ends}
 use Rattle.trials.proofs.largest_raise.Statement.{statement}
 use Rattle.trials.proofs.largest_raise.Tie as tie

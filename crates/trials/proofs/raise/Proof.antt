@@ -1,10 +1,10 @@
 -- `raise` meets its contract. The loop's invariant: the first j numbers are copied.
-use mathlib.Core.Path.{_≡_, refl, sym, ap, _∙_, subst}
-use Prim.Native.Nat.{ℕ, _+_, _-_, _≤_, _<_}
+use mathlib.Core.Path.{_≡_, refl, sym, ap, _∙_}
+use Prim.Native.Nat.{ℕ, _+_, _-_, _≤_}
 use native.Mathlib.Omega.{arith}
 use native.Mathlib.Numerals.{add-one}
 use mathlib.Core.List.{List, [], _∷_, _++_}
-use lib.ListN.{length, getD, take, drop, set, length-set}
+use lib.ListN.{length, getD, take, set, length-set}
 use lib.Seq.{take-length, take-suc, take-suc-set, take-set-lt}
 use Rattle.trials.proofs.raise.Statement.{statement}
 use Rattle.trials.proofs.raise.Tie as tie

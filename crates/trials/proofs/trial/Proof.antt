@@ -1,6 +1,6 @@
 -- `trials::trial` meets its contract: the list that `raise` made is C of the raised set, on which the row is climbed.
 use mathlib.Core.Path.{_≡_, sym, ap, _∙_, subst}
-use Prim.Native.Nat.{ℕ, _+_, _≤_, _<_}
+use Prim.Native.Nat.{ℕ, _+_, _<_}
 use mathlib.Core.List.{List}
 use native.Mathlib.Omega.{arith}
 use borrow.Author.Needs.{needs}
@@ -11,7 +11,7 @@ use Rattle.theory.specs.Climb.{Start, Climbed}
 use Rattle.theory.specs.Lists.{rowsOf, Shaped}
 use Rattle.climbs.specs.Ranking.{rankingBy}
 use Rattle.climbs.specs.Climb.{outcomeOf}
-use Rattle.trials.proofs.Raised.{raisedList, raised-lists, raised-shaped, raised-list-within, raised-small}
+use Rattle.trials.proofs.Raised.{raised-lists, raised-shaped, raised-list-within, raised-small}
 use Rattle.trials.proofs.trial.Statement.{statement}
 use Rattle.trials.proofs.trial.Tie as tie
 

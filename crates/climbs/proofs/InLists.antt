@@ -1,0 +1,64 @@
+-- A set of rows in three lists: the numbers of a row, the row at a place by rank, and what a climb to the number in the list says of the row.
+use mathlib.Core.Path.{_≡_, sym, ap, _∙_, subst}
+use Prim.Native.Nat.{ℕ, _<_}
+use mathlib.Core.List.{List}
+use native.Mathlib.Omega.{arith}
+use lib.Dec.{T}
+use lib.ListN.{length, getD, take}
+use lib.Seq.{getD-take}
+use Rattle.theory.specs.Row.{Row, rowAt}
+use Rattle.theory.specs.Response.{Outcome}
+use Rattle.theory.specs.Climb.{Climbed}
+use Rattle.theory.specs.Lists.{rowsOf, Shaped}
+use Rattle.theory.proofs.RowsOf.{rows-of-length, row-of-lists}
+use Rattle.theory.proofs.At.{StandsIn, stands-in, each-at, ordered-at}
+use Rattle.climbs.specs.declared.Climb.{Climb}
+use Rattle.climbs.specs.Climb.{outcomeOf}
+use Rattle.climbs.specs.Ranking.{aboveBy, rankingBy}
+use Rattle.climbs.proofs.ByRank.{ranking-inside, mem-ranking, length-ranking, ranking-ordered}
+
+module _ (cs ds ts : List ℕ) (shaped : Shaped cs ds ts) where
+  -- the numbers of a row are the lists'
+  pub deadline-of : (k : ℕ) → rowAt (rowsOf cs ds ts) k .D ≡ getD ds k 0
+  deadline-of k = ap (λ (r : Row). r .D) (row-of-lists cs ds ts (shaped .as-many-deadlines) (shaped .as-many-periods) k)
+
+  pub execution-of : (k : ℕ) → rowAt (rowsOf cs ds ts) k .C ≡ getD cs k 0
+  execution-of k = ap (λ (r : Row). r .C) (row-of-lists cs ds ts (shaped .as-many-deadlines) (shaped .as-many-periods) k)
+
+  pub in-rows : {k : ℕ} → k < length cs → k < length (rowsOf cs ds ts)
+  in-rows h = omega (arith, rows-of-length cs ds ts (shaped .as-many-deadlines) (shaped .as-many-periods))
+
+  pub in-lists : {k : ℕ} → k < length (rowsOf cs ds ts) → k < length cs
+  in-lists h = omega (arith, rows-of-length cs ds ts (shaped .as-many-deadlines) (shaped .as-many-periods))
+
+  -- what a climb to the number in the list says of the row
+  pub climb-said : (f : ℕ → ℕ) (k : ℕ) (answer : Climb) (o : Outcome) → outcomeOf answer ≡ o → Climbed f (getD ds k 0) (outcomeOf answer) → Climbed f (rowAt (rowsOf cs ds ts) k .D) o
+  climb-said f k answer o e c = subst (λ (limit : ℕ). Climbed f limit o) (sym (deadline-of k)) (subst (Climbed f (getD ds k 0)) e c)
+
+  -- the row at a place by rank
+  abbrev pub ranked : ℕ → ℕ
+  ranked p = getD (rankingBy ds) p 0
+
+  pub ranked-in-lists : (p : ℕ) → p < length cs → ranked p < length cs
+  ranked-in-lists p h =
+      let inside : ranked p < length ds = each-at (λ x. x < length ds) (rankingBy ds) (ranking-inside ds) p (omega (arith, length-ranking ds, shaped .as-many-deadlines)) in
+      omega (arith, shaped .as-many-deadlines)
+
+  -- an earlier one ranks above a later one
+  pub ranked-above : (p q : ℕ) → p < q → q < length cs → T (aboveBy ds (ranked p) (ranked q))
+  ranked-above p q h l = ordered-at (λ x y. T (aboveBy ds x y)) (rankingBy ds) (ranking-ordered ds) p q h (omega (arith, length-ranking ds, shaped .as-many-deadlines))
+
+  -- every row stands at a place by rank
+  pub record Ranked (k : ℕ) : Type 0 where
+    pub place : ℕ
+    pub inside : place < length cs
+    pub there : ranked place ≡ k
+
+  pub rank-of : (k : ℕ) → k < length cs → Ranked k
+  rank-of k h =
+      let stands : StandsIn (rankingBy ds) k = stands-in (mem-ranking ds k (omega (arith, shaped .as-many-deadlines))) in
+      record { place = stands .place; inside = omega (arith, stands .inside, length-ranking ds, shaped .as-many-deadlines); there = stands .there }
+
+  -- an order that begins with the places by rank has them at its places
+  pub order-ranked : (order : List ℕ) → take (length ds) order ≡ rankingBy ds → (j : ℕ) → j < length cs → getD order j 0 ≡ ranked j
+  order-ranked order e j h = sym (getD-take (length ds) order j 0 (omega (arith, shaped .as-many-deadlines))) ∙ ap (λ (xs : List ℕ). getD xs j 0) e

@@ -1,0 +1,2 @@
+-- The response times of a set, or the row that misses.
+pub mod Verdict

@@ -1,2 +1,0 @@
--- What the parts of the two list services must come to.
-pub mod Verdict
