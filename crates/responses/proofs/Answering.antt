@@ -8,7 +8,7 @@ use native.Mathlib.Omega.{arith}
 use lib.Dec.{T}
 use lib.ListN.{length, getD, set, length-set}
 use lib.Seq.{getD-set-same, getD-set-other}
-use Rattle.theory.specs.Row.{Row, rowAt, AllWithin}
+use Rattle.theory.specs.Row.{rowAt}
 use Rattle.theory.specs.Rank.{above}
 use Rattle.theory.specs.Response.{load, IsResponse, Meets, responds, misses, IsOutcome, FirstMiss}
 use Rattle.theory.specs.Climb.{Climbed}

@@ -14,12 +14,10 @@ use Rattle.theory.specs.Points.{touches}
 use Rattle.theory.specs.Lists.{rowsOf, Shaped}
 use Rattle.theory.proofs.Tests.{equal-or-not}
 use Rattle.theory.proofs.Each.{T-false}
-use Rattle.theory.proofs.At.{StandsIn, stands-in}
 use Rattle.theory.proofs.Verdict.{within-steady}
 use Rattle.theory.proofs.Trial.{raise-bounded, meets-with-less, trial-allowance}
-use Rattle.climbs.specs.Ranking.{rankingBy}
 use Rattle.climbs.proofs.ByRank.{above-of-lists}
-use Rattle.climbs.proofs.InLists.{in-rows, in-lists, execution-of, deadline-of, ranked, ranked-in-lists}
+use Rattle.climbs.proofs.InLists.{in-rows, in-lists, execution-of, deadline-of, ranked, ranked-in-lists, Ranked, rank-of}
 use Rattle.trials.specs.Trial.{touchesBy, LargestRaise}
 use Rattle.trials.proofs.Halving.{runs}
 
@@ -96,7 +94,7 @@ module _ (cs ds ts : List ℕ) (shaped : Shaped cs ds ts) where
     searching-ends allowed s all =
         trial-allowance (rowsOf cs ds ts) i in-set allowed (within-steady (rowsOf cs ds ts) within) all
         (λ k h t.
-        let stands : StandsIn (rankingBy ds) k = stands-in (mem-ranking ds k (omega (arith, in-lists cs ds ts shaped h, shaped .as-many-deadlines))) in
+        let stands : Ranked cs ds ts shaped k = rank-of cs ds ts shaped k (in-lists cs ds ts shaped h) in
         subst (Meets (raised (rowsOf cs ds ts) i allowed)) (stands .there)
         (s .met (stands .place) (omega arith) (stands .inside) (subst (λ (x : ℕ). T (touches (rowsOf cs ds ts) i x)) (sym (stands .there)) t)))
         (s .no-larger)
