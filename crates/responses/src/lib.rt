@@ -24,6 +24,7 @@ pub fn responses_of(c: &[u32], d: &[u32], t: &[u32], order: &[usize; 24]) -> Fou
     requires { ⌜ Shaped (now c) (now d) (now t) × AllWithin (rowsOf (now c) (now d) (now t)) ⌝ }
     requires { ⌜ take (length (now d)) (now order) ≡ rankingBy (now d) ⌝ }
     ensures { λ r. ⌜ IsVerdict (rowsOf (now (c .entry)) (now (d .entry)) (now (t .entry))) (r .response) (r .verdict) ⌝ }
+    ensures { λ r. ⌜ length (r .response) ≡ 24 ⌝ }
 {
     let mut response = [0u32; 24];
     let mut j = 0;

@@ -3,6 +3,7 @@ ghost use mathlib.Core.Path.{_≡_};
 ghost use Prim.Native.Nat.{_≤_};
 ghost use lib.ListN.{length};
 ghost use Rattle.theory.specs.Lists.{filled, SetAnswered, PointAnswered};
+ghost use Rattle.sets.specs.Begun.{IsBegun};
 use responses::Verdict;
 use theory::Answer;
 
@@ -18,6 +19,43 @@ fn fill(list: &mut [u32], numbers: &[u32])
     }
 }
 
+// Where both services stand before the allowances: the answer so far, the rows by rank, and their response times.
+pub struct Begun {
+    pub answer: Answer,
+    pub order: [usize; 24],
+    pub response: [u32; 24],
+}
+
+// The refusals in their order, or the response times.
+fn begin(c: &[u32], d: &[u32], t: &[u32], responses: usize, allowances: usize) -> Begun
+    ensures { λ r. ⌜ IsBegun (now (c .entry)) (now (d .entry)) (now (t .entry)) responses allowances (r .order) (r .response) (r .answer) ⌝ }
+{
+    let checked = refusals::check_lists(c, d, t, responses, allowances);
+    if refusals::number_of(checked) != 0 {
+        return Begun {
+            answer: checked,
+            order: [0; 24],
+            response: [0; 24],
+        };
+    }
+    let order = climbs::ranking(d);
+    let found = responses::responses_of(c, d, t, &order);
+    let verdict = found.verdict;
+    let response = found.response;
+    match verdict {
+        Verdict::OnTime => Begun {
+            answer: Answer::Accepted,
+            order,
+            response,
+        },
+        Verdict::Late(k) => Begun {
+            answer: Answer::RowMisses(k as u32 + 1),
+            order,
+            response,
+        },
+    }
+}
+
 // The set service: allowances by trial of the definition.
 pub fn set_service(
     c: &[u32],
@@ -28,48 +66,15 @@ pub fn set_service(
 ) -> Answer
     ensures { λ r. ⌜ SetAnswered (now (c .entry)) (now (d .entry)) (now (t .entry)) (now (responses .entry)) (now (allowances .entry)) r (now (responses .exit)) (now (allowances .exit)) ⌝ }
 {
-    let checked = refusals::check_lists(c, d, t, responses.len(), allowances.len());
-    let Answer::Accepted = checked else {
-        return checked;
-    };
-    let n = c.len();
-    let order = climbs::ranking(d);
-    let found = responses::responses_of(c, d, t, &order);
-    let verdict = found.verdict;
-    if let Verdict::Late(k) = verdict {
-        return Answer::RowMisses(k as u32 + 1);
+    let begun = begin(c, d, t, responses.len(), allowances.len());
+    let answer = begun.answer;
+    if refusals::number_of(answer) != 0 {
+        return answer;
     }
-    let response = found.response;
+    let n = c.len();
+    let order = begun.order;
+    let response = begun.response;
     let allowed = trials::trial_allowances(c, d, t, &order, &response);
-    fill(responses, &response[..n]);
-    fill(allowances, &allowed[..n]);
-    Answer::Accepted
-}
-
-// The point service: allowances by the point formula.
-pub fn point_service(
-    c: &[u32],
-    d: &[u32],
-    t: &[u32],
-    responses: &mut [u32],
-    allowances: &mut [u32],
-) -> Answer
-    ensures { λ r. ⌜ PointAnswered (now (c .entry)) (now (d .entry)) (now (t .entry)) (now (responses .entry)) (now (allowances .entry)) r (now (responses .exit)) (now (allowances .exit)) ⌝ }
-{
-    let checked = refusals::check_lists(c, d, t, responses.len(), allowances.len());
-    let Answer::Accepted = checked else {
-        return checked;
-    };
-    let n = c.len();
-    let order = climbs::ranking(d);
-    let found = responses::responses_of(c, d, t, &order);
-    let verdict = found.verdict;
-    if let Verdict::Late(k) = verdict {
-        return Answer::RowMisses(k as u32 + 1);
-    }
-    let response = found.response;
-    let signed = points::point_allowances(c, d, t, &order);
-    let allowed = points::as_numbers(&signed[..n]);
     fill(responses, &response[..n]);
     fill(allowances, &allowed[..n]);
     Answer::Accepted

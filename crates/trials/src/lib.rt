@@ -139,6 +139,7 @@ pub fn trial_allowances(
     requires { ⌜ take (length (now d)) (now order) ≡ rankingBy (now d) ⌝ }
     requires { ⌜ ((k : ℕ) → k < length (now c) → RespondsInTime (rowsOf (now c) (now d) (now t)) (now response) k) ⌝ }
     ensures { λ r. ⌜ ((i : ℕ) → i < length (now (c .entry)) → IsAllowance (rowsOf (now (c .entry)) (now (d .entry)) (now (t .entry))) i (getD r i 0)) ⌝ }
+    ensures { λ r. ⌜ length r ≡ 24 ⌝ }
 {
     let mut allowed = [0u32; 24];
     let mut i = 0;

@@ -90,10 +90,10 @@ returns c =
     let j = c .before .before .before .before .before .loop .j in
     let at : getD order j 0 ≡ ranked cs ds ts shaped j = order-ranked cs ds ts shaped order (pre .1) j (omega arith) in
     let inside : getD order j 0 < length cs = subst (λ (x : ℕ). x < length cs) (sym at) (ranked-in-lists cs ds ts shaped j (omega arith)) in
-    subst (FirstMiss (rowsOf cs ds ts)) (sym at)
+    (subst (FirstMiss (rowsOf cs ds ts)) (sym at)
     (answering-stops cs ds ts shaped (c .before .before .before .before .before .loop .response) j (c .before .before .before .before .before .loop .inv shaped) (omega arith)
     (subst (λ (k : ℕ). Climbed (load (rowsOf cs ds ts) k) (rowAt (rowsOf cs ds ts) k .D) misses) at
-    (climb-said cs ds ts shaped (load (rowsOf cs ds ts) (getD order j 0)) (getD order j 0) (c .before .before .climb-row .result) misses (ap outcomeOf (c .enum-told .given .1)) (c .before .before .climb-row .ensures))))
+    (climb-said cs ds ts shaped (load (rowsOf cs ds ts) (getD order j 0)) (getD order j 0) (c .before .before .climb-row .result) misses (ap outcomeOf (c .enum-told .given .1)) (c .before .before .climb-row .ensures)))), c .before .before .before .before .before .loop .inv shaped .long)
 
 add-j : tie.Need-add-j Inv-loop μ-loop
 add-j c = omega arith
@@ -121,7 +121,7 @@ loop-again c = λ shaped.
 returns-2 : tie.Need-returns-2 Inv-loop μ-loop
 returns-2 c =
     let start = c .before .before .before .before .before in
-    answering-ends (start .args .c .now) (start .args .d .now) (start .args .t .now) (start .pre .0 .0) (c .before .loop .response) (c .before .loop .j) (c .before .loop .inv (start .pre .0 .0)) (omega arith)
+    (answering-ends (start .args .c .now) (start .args .d .now) (start .args .t .now) (start .pre .0 .0) (c .before .loop .response) (c .before .loop .j) (c .before .loop .inv (start .pre .0 .0)) (omega arith), c .before .loop .inv (start .pre .0 .0) .long)
 
 pub responses-of-spec : {M : Type 1} → statement M
 responses-of-spec =

@@ -51,7 +51,7 @@ loop-again c =
     )
 
 returns : tie.Need-returns Inv-loop μ-loop
-returns c = λ i h. c .before .loop .inv .2 i (omega arith)
+returns c = (λ i h. c .before .loop .inv .2 i (omega arith), c .before .loop .inv .1)
 
 pub trial-allowances-spec : {M : Type 1} → statement M
 trial-allowances-spec =

@@ -1,0 +1,114 @@
+-- From one stage of the list services to the next: what the checks passed, what the response times leave, and the answer on both lists.
+use mathlib.Core.Path.{_≡_, refl, sym, _∙_, subst}
+use Prim.Native.Nat.{ℕ, _+_, _≤_, _<_}
+use mathlib.Core.List.{List}
+use native.Mathlib.Omega.{arith}
+use native.Mathlib.Numerals.{add-one}
+use lib.ListN.{length, getD, take}
+use lib.Seq.{getD-take, length-take-le}
+use Rattle.theory.specs.declared.Answer.{Answer}
+use Rattle.theory.specs.declared.Answer.the-variants.{Accepted, RowMisses}
+use Rattle.theory.specs.Answer.{numberOf}
+use Rattle.theory.specs.Row.{Row, AllWithin}
+use Rattle.theory.specs.Response.{IsResponse}
+use Rattle.theory.specs.Lists.{rowsOf, Shaped, ForEach, Answered, filled}
+use Rattle.theory.specs.Lists as lists
+use Rattle.theory.proofs.RowsOf.{rows-of-length}
+use Rattle.climbs.specs.Ranking.{rankingBy}
+use Rattle.climbs.proofs.InLists.{in-lists, in-rows}
+use Rattle.responses.specs.declared.Verdict.{Verdict}
+use Rattle.responses.specs.declared.Verdict.the-variants.{OnTime, Late}
+use Rattle.responses.specs.Verdict.{RespondsInTime, IsVerdict}
+use Rattle.refusals.specs.Checked as checks
+use Rattle.refusals.specs.Checked.{Checked}
+use Rattle.sets.specs.Begun.{IsBegun}
+use Rattle.sets.specs.Begun as stage
+
+module _ (cs ds ts : List ℕ) (responses allowances : ℕ) where
+  -- what the checks have passed
+  pub record Passed : Type 0 where
+    pub shaped : Shaped cs ds ts
+    pub within : AllWithin (rowsOf cs ds ts)
+    pub responses-fit : length cs ≤ responses
+    pub allowances-fit : length cs ≤ allowances
+
+  pub checks-refuse : {a : Answer} → Checked cs ds ts responses allowances a → (numberOf a ≡ 0 → ⊥) → (order response : List ℕ) → IsBegun cs ds ts responses allowances order response a
+  checks-refuse (checks.rows-out-of-range n) r order response = stage.rows-out-of-range n
+  checks-refuse (checks.row-breaks-limits k s f) r order response = stage.row-breaks-limits k s f
+  checks-refuse (checks.output-too-short s w o) r order response = stage.output-too-short s w o
+  checks-refuse (checks.passed s w p q) r order response = absurd (r refl)
+
+  pub checks-pass : {a : Answer} → Checked cs ds ts responses allowances a → numberOf a ≡ 0 → Passed
+  checks-pass (checks.rows-out-of-range n) e = absurd (omega arith)
+  checks-pass (checks.row-breaks-limits k s f) e = absurd (omega arith)
+  checks-pass (checks.output-too-short s w o) e = absurd (omega arith)
+  checks-pass (checks.passed s w p q) e = record { shaped = s; within = w; responses-fit = p; allowances-fit = q }
+
+  module _ (order response : List ℕ) (passed : Passed) {verdict : Verdict} (said : IsVerdict (rowsOf cs ds ts) response verdict) where
+    pub verdict-on-time : take (length ds) order ≡ rankingBy ds → length response ≡ 24 → verdict ≡ OnTime → IsBegun cs ds ts responses allowances order response Accepted
+    verdict-on-time ranked long on-time = stage.begun (passed .shaped) (passed .within) (passed .responses-fit) (passed .allowances-fit) ranked long (subst (IsVerdict (rowsOf cs ds ts) response) on-time said)
+
+    pub verdict-late : (k : ℕ) → verdict ≡ Late k → IsBegun cs ds ts responses allowances order response (RowMisses (k + 1))
+    verdict-late k late =
+        subst (λ (row : ℕ). IsBegun cs ds ts responses allowances order response (RowMisses row)) (sym (add-one k))
+        (stage.row-misses k (passed .shaped) (passed .within) (passed .responses-fit) (passed .allowances-fit) (subst (IsVerdict (rowsOf cs ds ts) response) late said))
+
+    pub late-in-set : (k : ℕ) → verdict ≡ Late k → k < 24
+    late-in-set k late =
+        let inside : k < length cs = in-lists cs ds ts (passed .shaped) (subst (IsVerdict (rowsOf cs ds ts) response) late said .in-set) in
+        omega (arith, passed .shaped .no-25th)
+
+-- the front of an array that both services fill a lent list with
+pub front-length : {cs ds ts : List ℕ} → Shaped cs ds ts → (numbers : List ℕ) → length numbers ≡ 24 → length (take (length cs) numbers) ≡ length cs
+front-length {cs} shaped numbers long = length-take-le (length cs) numbers (omega (arith, long, shaped .no-25th))
+
+-- what is there when the allowances are still to come
+pub record Ready (cs ds ts : List ℕ) (responses allowances : ℕ) (order response : List ℕ) : Type 0 where
+  pub passed : Passed cs ds ts responses allowances
+  pub ranked : take (length ds) order ≡ rankingBy ds
+  pub long : length response ≡ 24
+  pub in-time : (k : ℕ) → k < length (rowsOf cs ds ts) → RespondsInTime (rowsOf cs ds ts) response k
+
+pub begun-ready : (cs ds ts : List ℕ) (responses allowances : ℕ) (order response : List ℕ) {a : Answer}
+  → IsBegun cs ds ts responses allowances order response a
+  → numberOf a ≡ 0
+  → Ready cs ds ts responses allowances order response
+begun-ready cs ds ts responses allowances order response (stage.rows-out-of-range n) e = absurd (omega arith)
+begun-ready cs ds ts responses allowances order response (stage.row-breaks-limits k s f) e = absurd (omega arith)
+begun-ready cs ds ts responses allowances order response (stage.output-too-short s w o) e = absurd (omega arith)
+begun-ready cs ds ts responses allowances order response (stage.row-misses k s w p q m) e = absurd (omega arith)
+begun-ready cs ds ts responses allowances order response (stage.begun s w p q o l t) e =
+    record { passed = record { shaped = s; within = w; responses-fit = p; allowances-fit = q }; ranked = o; long = l; in-time = t }
+
+module _ (Allowance : List Row → ℕ → ℕ → Type 0) (cs ds ts responses allowances : List ℕ) where
+  -- a refusal leaves both lists as they were
+  pub begun-refused : {a : Answer} (order response : List ℕ)
+    → IsBegun cs ds ts (length responses) (length allowances) order response a
+    → (numberOf a ≡ 0 → ⊥)
+    → Answered Allowance cs ds ts responses allowances a responses allowances
+  begun-refused order response (stage.rows-out-of-range n) r = lists.rows-out-of-range n
+  begun-refused order response (stage.row-breaks-limits k s f) r = lists.row-breaks-limits k s f
+  begun-refused order response (stage.output-too-short s w o) r = lists.output-too-short s w o
+  begun-refused order response (stage.row-misses k s w p q m) r = lists.row-misses k s w p q m
+  begun-refused order response (stage.begun s w p q o l t) r = absurd (r refl)
+
+  -- with an allowance for each row the call is accepted
+  pub ready-accepted : (order response allowed : List ℕ)
+    → Ready cs ds ts (length responses) (length allowances) order response
+    → length allowed ≡ 24
+    → ((i : ℕ) → i < length cs → Allowance (rowsOf cs ds ts) i (getD allowed i 0))
+    → Answered Allowance cs ds ts responses allowances Accepted (filled (take (length cs) response) responses) (filled (take (length cs) allowed) allowances)
+  ready-accepted order response allowed ready long is-allowance =
+      lists.accepted (take (length cs) response) (take (length cs) allowed) (ready .passed .shaped) (ready .passed .within) (ready .passed .responses-fit) (ready .passed .allowances-fit)
+      (λ k h. let r = ready .in-time k h in record { response = getD response k 0; is-response = r .is-response; by-deadline = r .by-deadline })
+      (first response (ready .long) (IsResponse (rowsOf cs ds ts)) (λ k h. ready .in-time k (in-rows cs ds ts (ready .passed .shaped) h) .is-response))
+      (first allowed long (Allowance (rowsOf cs ds ts)) is-allowance)
+    where
+      -- the first numbers of a long enough list, one for each row
+      first : (numbers : List ℕ) → length numbers ≡ 24 → (Right : ℕ → ℕ → Type 0) → ((k : ℕ) → k < length cs → Right k (getD numbers k 0)) → ForEach (rowsOf cs ds ts) Right (take (length cs) numbers)
+      first numbers long Right right = record {
+        one-each = front-length (ready .passed .shaped) numbers long ∙ sym (rows-of-length cs ds ts (ready .passed .shaped .as-many-deadlines) (ready .passed .shaped .as-many-periods));
+        right = λ k h.
+          let inside : k < length cs = in-lists cs ds ts (ready .passed .shaped) h in
+          subst (Right k) (sym (getD-take (length cs) numbers k 0 inside)) (right k inside)
+      }

@@ -1,0 +1,2 @@
+-- What the two list services have in common.
+pub mod Begun
