@@ -66,7 +66,7 @@ fn last_multiple(m: u32, time: u32) -> u32
 }
 
 // Visits the points of the walk at a level from a time that are above the last one visited, and gives the last one visited then.
-fn walk_on(
+pub fn walk_on(
     level: usize,
     time: u32,
     last: u32,
