@@ -1,4 +1,4 @@
--- Numbers raised to the greatest of what a function gives at visited points: at one point, and in two steps.
+-- Numbers raised to the greatest of what a function gives at visited points: at one point, in two steps, and one entry of a list after the other.
 use mathlib.Core.Path.{_≡_, refl, sym, ap, subst, _∙_}
 use Prim.Native.Nat.{ℕ, _+_, _≤_, _<_}
 use mathlib.Core.Bool.{Bool, true, false, not}
@@ -31,6 +31,7 @@ less-or-equal a b e = go (leZ a b) refl
     go true f = leZ-passes a b f
     go false f = clashℤ (ltZ-yes (subst T (sym e) tt)) (leZ-fails a b f)
 
+-- and the order where it fails
 not-less : (a b : ℤ) → ltZ a b ≡ false → b ≤ℤ a
 not-less a b e = ltZ-no (subst (λ (t : Bool). T (not t)) (sym e) tt)
 

@@ -8,7 +8,6 @@ use lib.Dec.{ltb}
 use lib.IntN.{ℤ, pos, _-ℤ_}
 use lib.ListN.{length, getD}
 use lib.Signed.{ltZ, _≤ℤ_}
-use Rattle.theory.specs.Row.{Row}
 use Rattle.theory.specs.Response.{ceil}
 use Rattle.theory.specs.Points.{floorDiv, walk}
 use Rattle.theory.specs.Lists.{rowsOf}
