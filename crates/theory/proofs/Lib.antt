@@ -21,6 +21,7 @@ pub mod Walk
 pub mod Ascending
 pub mod Signed
 pub mod Moved
+pub mod Greater
 pub mod Rank
 pub mod Verdict
 pub mod Raise

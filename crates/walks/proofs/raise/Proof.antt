@@ -8,8 +8,8 @@ use lib.ListN.{getD, set}
 use lib.Seq.{set-getD}
 use mir.Syntax.{w64}
 use mir.ValLaws.{toZ-ofZ}
+use Rattle.theory.proofs.Greater.{greater-first, greater-second}
 use Rattle.walks.proofs.Held.{own-order}
-use Rattle.walks.proofs.Raised.{greater-first, greater-second}
 use Rattle.walks.proofs.raise.Statement.{statement}
 use Rattle.walks.proofs.raise.Tie as tie
 
