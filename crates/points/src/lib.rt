@@ -36,8 +36,8 @@ pub fn bounds_of(c: &[u32], d: &[u32], t: &[u32], order: &[usize; 24], k: usize)
 }
 
 // Lowers an entry to a number, where that is smaller.
-fn lower_entry(allowed: &mut [i64; 24], i: usize, bound: i64)
-    requires { ⌜ i < 24 ⌝ }
+fn lower_entry(allowed: &mut [i64], i: usize, bound: i64)
+    requires { ⌜ i < length (now allowed) ⌝ }
     ensures { λ _. ⌜ now (allowed .exit) ≡ set (now (allowed .entry)) i (smaller (getD (now (allowed .entry)) i (pos 0)) bound) ⌝ }
 {
     if bound < allowed[i] {
@@ -46,10 +46,10 @@ fn lower_entry(allowed: &mut [i64; 24], i: usize, bound: i64)
 }
 
 // Lowers the allowance of each row that row k's bounds are on: its rivals, and then itself.
-fn lower(allowed: &mut [i64; 24], best: &[i64], place: &[usize], k: usize)
+fn lower(allowed: &mut [i64], best: &[i64], place: &[usize], k: usize)
     requires { ⌜ length (now place) < length (now best) ⌝ }
-    requires { ⌜ All (λ h. h < 24) (now place) × (k < 24) ⌝ }
-    ensures { λ _. ⌜ ((i : ℕ) → i < 24 → LoweredTo (λ j. getD (now (best .entry)) j (pos 0)) (IsOn (now (place .entry)) k i) (getD (now (allowed .entry)) i (pos 0)) (getD (now (allowed .exit)) i (pos 0))) ⌝ }
+    requires { ⌜ All (λ h. h < length (now allowed)) (now place) × (k < length (now allowed)) ⌝ }
+    ensures { λ _. ⌜ ((i : ℕ) → LoweredTo (λ j. getD (now (best .entry)) j (pos 0)) (IsOn (now (place .entry)) k i) (getD (now (allowed .entry)) i (pos 0)) (getD (now (allowed .exit)) i (pos 0))) ⌝ }
 {
     let mut j = 0;
     while j < place.len() {
