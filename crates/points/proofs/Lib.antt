@@ -4,3 +4,6 @@ pub mod SmallLoad
 pub mod Rivals
 pub mod Walked
 pub mod Bounding
+pub mod Held
+pub mod Touched
+pub mod Allowed

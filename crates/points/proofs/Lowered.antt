@@ -15,10 +15,10 @@ use Rattle.theory.proofs.Moved.{moved-to-nothing, moved-in-two, moved-alike, lo
 use Rattle.points.specs.Bounds.{IsOn, a-rival, itself}
 
 -- the order of numbers that go down
-abbrev Down : ℤ → ℤ → Type 0
+abbrev pub Down : ℤ → ℤ → Type 0
 Down a b = b ≤ℤ a
 
-down-trans : (x y z : ℤ) → Down x y → Down y z → Down x z
+pub down-trans : (x y z : ℤ) → Down x y → Down y z → Down x z
 down-trans x y z h k = ≤ℤ-trans z y x k h
 
 -- where one entry is lowered to what a function gives at a number, its own row is lowered past that and every other past nothing

@@ -1,5 +1,5 @@
 -- The rivals of a row that the code holds are its rivals: each of them is one, and each rival is among them.
-use mathlib.Core.Path.{_≡_, sym, subst}
+use mathlib.Core.Path.{sym, subst}
 use Prim.Native.Nat.{ℕ, _<_}
 use mathlib.Core.List.{List, List·Memᴰ}
 use lib.Dec.{T}

@@ -1,21 +1,17 @@
 -- `as_numbers` meets its contract. The loop's invariant: the first j numbers are the allowances'.
-use mathlib.Core.Path.{_≡_, refl, sym, ap, _∙_, subst}
-use Prim.Native.Nat.{ℕ, _+_, _-_, _≤_, _<_}
+use mathlib.Core.Path.{_≡_, refl, sym, ap, _∙_}
+use Prim.Native.Nat.{ℕ, _-_, _≤_, _<_}
 use native.Mathlib.Omega.{arith}
-use native.Mathlib.Numerals.{add-one}
 use borrow.Author.Count.{below-more}
-use mathlib.Core.List.{List, _++_}
 use lib.IntN.{ℤ, pos, natAbs}
 use mir.Syntax.{w64}
 use mir.Val.{toZ, ofZ}
 use mir.ValLaws.{toZ-ofZ}
 use Rattle.points.specs.Bounds.{IsSmall}
-use lib.ListN.{length, getD, take, drop, set, length-set}
+use lib.ListN.{length, getD, length-set}
 use lib.Seq.{getD-set-same, getD-set-other}
 use Rattle.points.proofs.as_numbers.Statement.{statement}
 use Rattle.points.proofs.as_numbers.Tie as tie
-use Rattle.points.proofs.as_numbers.Reads as reads
-use Rattle.points.proofs.as_numbers.Lts as lts
 
 abbrev Inv-loop : tie.InvT-loop
 Inv-loop allowed numbers₀ j₀ numbers j =
