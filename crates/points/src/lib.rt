@@ -53,7 +53,8 @@ fn lower(allowed: &mut [i64], best: &[i64], place: &[usize], k: usize)
 {
     let mut j = 0;
     while j < place.len() {
-        lower_entry(allowed, place[j], best[j]);
+        let i = place[j];
+        lower_entry(allowed, i, best[j]);
         j += 1;
     }
     lower_entry(allowed, k, best[j]);

@@ -24,14 +24,14 @@ place-inside c =
     let start = c .before .before .before in
     each-at (λ h. h < length (start .args .allowed .now)) (start .args .place .now) (start .pre .1 .0) (c .before .loop .j) (c .loop-test .taken)
 
+mul-i : tie.Need-mul-i Inv-loop μ-loop
+mul-i c = omega arith
+
+shared-slice-read-i : tie.Need-shared-slice-read-i Inv-loop μ-loop
+shared-slice-read-i c = omega arith
+
 mul-lower-entry : tie.Need-mul-lower-entry Inv-loop μ-loop
 mul-lower-entry c = omega arith
-
-shared-slice-read-lower-entry : tie.Need-shared-slice-read-lower-entry Inv-loop μ-loop
-shared-slice-read-lower-entry c = omega arith
-
-mul-lower-entry-2 : tie.Need-mul-lower-entry-2 Inv-loop μ-loop
-mul-lower-entry-2 c = omega arith
 
 shared-slice-copy-out-lower-entry : tie.Need-shared-slice-copy-out-lower-entry Inv-loop μ-loop
 shared-slice-copy-out-lower-entry c = omega arith
@@ -51,8 +51,8 @@ loop-again c =
     let more = c .before .before .before .before .before .loop-test .taken in
     one-more-lowered so-far (c .before .lower-entry .last .0) _ (held-as-it-is _ (c .before .before .lower-entry-arg2 .given)) more (place-inside (c .before .before .before .before .before)) (c .before .lower-entry .ensures)
 
-mul-lower-entry-3 : tie.Need-mul-lower-entry-3 Inv-loop μ-loop
-mul-lower-entry-3 c = omega arith
+mul-lower-entry-2 : tie.Need-mul-lower-entry-2 Inv-loop μ-loop
+mul-lower-entry-2 c = omega arith
 
 shared-slice-copy-out-lower-entry-2 : tie.Need-shared-slice-copy-out-lower-entry-2 Inv-loop μ-loop
 shared-slice-copy-out-lower-entry-2 c = omega arith
@@ -75,15 +75,15 @@ lower-spec =
     Inv-loop
     μ-loop
     loop-holds
+    mul-i
+    shared-slice-read-i
     mul-lower-entry
-    shared-slice-read-lower-entry
-    mul-lower-entry-2
     shared-slice-copy-out-lower-entry
     lower-entry-requires
     add-j
     loop-less
     loop-again
-    mul-lower-entry-3
+    mul-lower-entry-2
     shared-slice-copy-out-lower-entry-2
     lower-entry-requires-2
     same-length
