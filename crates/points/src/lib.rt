@@ -86,10 +86,10 @@ pub fn as_numbers(allowed: &[i64]) -> [u32; 24]
     ensures { λ r. ⌜ ((i : ℕ) → i < length (now (allowed .entry)) → pos (getD r i 0) ≡ getD (now (allowed .entry)) i (pos 0)) ⌝ }
 {
     let mut numbers = [0u32; 24];
-    let mut j = 0;
-    while j < allowed.len() {
-        numbers[j] = allowed[j] as u32;
-        j += 1;
+    let mut i = 0;
+    while i < allowed.len() {
+        numbers[i] = allowed[i] as u32;
+        i += 1;
     }
     numbers
 }
