@@ -41,7 +41,7 @@ bound-below rows within k i inside =
     let b = bound-is rows k i in
     let by-deadline : b .point ≤ rowAt rows k .D = walk-within (levels rows k) (length (levels rows k)) (rowAt rows k .D) (b .point) (b .among-points) in
     subst (λ (z : ℤ). z ≤ℤ most) (b .its-quotient)
-    (≤ℤ-trans (quotient rows k i (b .point)) (pos (b .point)) most (quotient-at-most (b .point) (load rows k (b .point)) (times rows k i (b .point))) (pos-le (omega (arith, within k inside))))
+    (≤ℤ-trans _ (pos (b .point)) most (quotient-at-most (b .point) (load rows k (b .point)) (times rows k i (b .point))) (pos-le (omega (arith, within k inside))))
 
 -- the allowances after the first k rows
 pub record AllowedUpTo (cs ds ts : List ℕ) (k : ℕ) (allowed : List ℤ) : Type 0 where
@@ -65,7 +65,7 @@ module _ (cs ds ts : List ℕ) (shaped : Shaped cs ds ts) where
     as-long = refl;
     lowered = λ i h.
         rw (getD-replicate 24 i most (pos 0) (omega (arith, how-many, shaped .no-25th)))
-        (moved-to-nothing Down ≤ℤ-refl down-trans (λ x. bound rows x i) (λ x. (x < 0) × T (touches rows i x)) (λ x v. absurd (omega (arith, v .0))) most);
+        (moved-to-nothing Down ≤ℤ-refl down-trans _ _ (λ x v. absurd (omega (arith, v .0))) most);
   }
 
   -- one row more
@@ -80,7 +80,7 @@ module _ (cs ds ts : List ℕ) (shaped : Shaped cs ds ts) where
     within = omega arith;
     as-long = same ∙ so-far .as-long;
     lowered = λ i h.
-        moved-in-two Down ≤ℤ-refl down-trans (λ x. bound rows x i) (λ x. (x < k) × T (touches rows i x)) (λ x. (x ≡ k) × T (touches rows i x)) (λ x. (x < k + 1) × T (touches rows i x))
+        moved-in-two Down ≤ℤ-refl down-trans _ _ (λ x. (x ≡ k) × T (touches rows i x)) _
         (λ x v. (omega (arith, v .0), v .1)) (λ x v. (omega (arith, v .0), v .1)) (of-both i) _ _ _ (so-far .lowered i h) (by-row i h);
   }
     where
@@ -92,17 +92,20 @@ module _ (cs ds ts : List ℕ) (shaped : Shaped cs ds ts) where
 
       by-row : (i : ℕ) → i < length rows → LoweredTo (λ x. bound rows x i) (λ x. (x ≡ k) × T (touches rows i x)) (getD allowed i (pos 0)) (getD next i (pos 0))
       by-row i h =
-          moved-renumbered Down (λ j. getD (bounds .best) j (pos 0)) (IsOn hs k i) (λ x. bound rows x i) (λ x. (x ≡ k) × T (touches rows i x))
+          moved-renumbered Down _ _ _ _
           (entry-attained cs ds ts shaped k holds i) (bound-attained cs ds ts shaped k holds i h) _ _
           (subst (λ (places : List ℕ). LoweredTo (λ j. getD (bounds .best) j (pos 0)) (IsOn places k i) (getD allowed i (pos 0)) (getD next i (pos 0))) (places-are holds) (lower i))
 
   -- after the last row
-  pub all-allowed : AllWithin rows → {k : ℕ} {allowed : List ℤ} → AllowedUpTo cs ds ts k allowed → length cs ≤ k → (i : ℕ) → i < length cs → IsPointAllowance rows i (getD allowed i (pos 0))
+  pub all-allowed : AllWithin rows → {k : ℕ} {allowed : List ℤ} → AllowedUpTo cs ds ts k allowed → length cs ≤ k
+      → (i : ℕ)
+      → i < length cs
+      → IsPointAllowance rows i (getD allowed i (pos 0))
   all-allowed limits {k} {allowed} so-far last i h =
       let inside : i < length rows = omega (arith, how-many) in
       let moved = so-far .lowered i inside in
       let touched = or-first (eqb i i) (rival rows i i) (eqb-refl i) in
-      let a = moved-attains Down (λ x y p q. ≤ℤ-antisymm x y q p) (λ x. bound rows x i) (λ x. (x < k) × T (touches rows i x)) most (getD allowed i (pos 0)) moved i (omega arith, touched) (bound-below rows limits i i inside) in
+      let a = moved-attains Down (λ x y p q. ≤ℤ-antisymm x y q p) _ _ _ _ moved i (omega arith, touched) (bound-below rows limits i i inside) in
       record {
         row = a .at;
         in-set = omega (arith, how-many, a .visited .0, so-far .within);

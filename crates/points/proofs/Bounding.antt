@@ -53,7 +53,9 @@ module _ (cs ds ts : List ℕ) (shaped : Shaped cs ds ts) (within : AllWithin (r
       point = best .at;
       among-points = subst (List·Memᴰ (best .at)) (points-of-rivals cs ds ts shaped k) (best .visited .0);
       its-quotient = sym (same (best .at)) ∙ best .gives;
-      greatest = λ p m. subst (λ (z : ℤ). z ≤ℤ getD after j (pos 0)) (same p) (raised .past-visited p (visited p (subst (List·Memᴰ p) (sym (points-of-rivals cs ds ts shaped k)) m)));
+      greatest = λ p m.
+          subst (λ (z : ℤ). z ≤ℤ getD after j (pos 0)) (same p)
+          (raised .past-visited p (visited p (subst (List·Memᴰ p) (sym (points-of-rivals cs ds ts shaped k)) m)));
     }
       where
         raised : RaisedTo (quotientOf (getD cs k 0) executions periods j) Visited (getD before j (pos 0)) (getD after j (pos 0))
@@ -64,9 +66,9 @@ module _ (cs ds ts : List ℕ) (shaped : Shaped cs ds ts) (within : AllWithin (r
 
         best : Attained (quotientOf (getD cs k 0) executions periods j) Visited (getD after j (pos 0))
         best =
-            moved-attains (λ a b. a ≤ℤ b) ≤ℤ-antisymm (quotientOf (getD cs k 0) executions periods j) Visited (getD before j (pos 0)) (getD after j (pos 0)) raised (getD ds k 0)
+            moved-attains (λ a b. a ≤ℤ b) ≤ℤ-antisymm _ _ _ _ raised (getD ds k 0)
             (visited (getD ds k 0) (walk-start (rowsOf executions periods periods) (length hs) (getD ds k 0)))
-            (rw (from-least j h) (least-below (getD cs k 0) executions periods (omega (arith, limits)) (small-rivals cs ds ts shaped within k) j (getD ds k 0) (omega (arith, limits))))
+            (rw (from-least j h) (least-below _ _ _ (omega (arith, limits)) (small-rivals cs ds ts shaped within k) j _ (omega (arith, limits))))
 
     -- on each rival
     pub bound-on-rival : (j : ℕ) → j < length hs → IsBound rows k (getD hs j 0) (getD after j (pos 0))

@@ -15,12 +15,15 @@ use Rattle.points.specs.Bounds.{HoldsBounds}
 use Rattle.points.proofs.Rivals.{each-is-rival}
 
 module _ {rows : List Row} {k : ℕ} {hs : List ℕ} {bounds : Bounds} (holds : HoldsBounds rows k hs bounds) where
+  -- the places are the rivals'
   pub places-are : take (bounds .n) (bounds .place) ≡ hs
   places-are = ap (λ (n : ℕ). take n (bounds .place)) (holds .how-many) ∙ holds .places
 
+  -- as many as the code says
   pub places-as-many : bounds .n ≡ length (take (bounds .n) (bounds .place))
   places-as-many = holds .how-many ∙ sym (ap length places-are)
 
+  -- and the array has that many
   pub places-inside : bounds .n ≤ length (bounds .place)
   places-inside = omega (arith, places-as-many, length-take (bounds .n) (bounds .place))
 

@@ -14,7 +14,7 @@ use Rattle.theory.proofs.Tests.{equal-or-not}
 use Rattle.theory.proofs.Moved.{moved-to-nothing, moved-in-two, moved-alike, lowered-at}
 use Rattle.points.specs.Bounds.{IsOn, a-rival, itself}
 
--- the order of numbers that go down
+-- the order of numbers that go down, and that it chains
 abbrev pub Down : ℤ → ℤ → Type 0
 Down a b = b ≤ℤ a
 
@@ -36,10 +36,10 @@ lowered-entry value at x before after inside stored i =
     own : i ≡ at → LoweredTo value (λ y. (y ≡ x) × (at ≡ i)) (getD before i (pos 0)) (getD (set before at to) i (pos 0))
     own e =
         rw (e, getD-set-same before at to (pos 0) inside)
-        (moved-alike Down ≤ℤ-refl down-trans value (λ y. y ≡ x) (λ y. (y ≡ x) × (at ≡ at)) (λ y h. (h, refl)) (λ y h. h .0) _ _ (lowered-at value x (getD before at (pos 0))))
+        (moved-alike Down ≤ℤ-refl down-trans _ _ _ (λ y h. (h, refl)) (λ y h. h .0) _ _ (lowered-at value x (getD before at (pos 0))))
 
     other : (i ≡ at → ⊥) → LoweredTo value (λ y. (y ≡ x) × (at ≡ i)) (getD before i (pos 0)) (getD (set before at to) i (pos 0))
-    other d = rw (getD-set-other before at i to (pos 0) d) (moved-to-nothing Down ≤ℤ-refl down-trans value (λ y. (y ≡ x) × (at ≡ i)) (λ y h. d (sym (h .1))) _)
+    other d = rw (getD-set-other before at i to (pos 0) d) (moved-to-nothing Down ≤ℤ-refl down-trans _ _ (λ y h. d (sym (h .1))) _)
 
 -- each row's allowance lowered to the first j bounds, where those are on it
 pub record LoweredUpTo (best : List ℤ) (places : List ℕ) (j : ℕ) (before after : List ℤ) : Type 0 where
@@ -52,7 +52,7 @@ pub none-lowered : (best : List ℤ) (places : List ℕ) (before : List ℤ) →
 none-lowered best places before = record {
   within = omega arith;
   as-long = refl;
-  lowered = λ i. moved-to-nothing Down ≤ℤ-refl down-trans (λ x. getD best x (pos 0)) (λ x. (x < 0) × (getD places x 0 ≡ i)) (λ x h. absurd (omega (arith, h .0))) _;
+  lowered = λ i. moved-to-nothing Down ≤ℤ-refl down-trans _ _ (λ x h. absurd (omega (arith, h .0))) _;
 }
 
 module _ {best : List ℤ} {places : List ℕ} {j : ℕ} {before after : List ℤ} (so-far : LoweredUpTo best places j before after) (next : List ℤ) (bound : ℤ)
@@ -66,12 +66,14 @@ module _ {best : List ℤ} {places : List ℕ} {j : ℕ} {before after : List �
       → (i : ℕ)
       → LoweredTo (λ x. getD best x (pos 0)) (Both i) (getD before i (pos 0)) (getD next i (pos 0))
   then-one at inside stored Both from-first from-entry of-both i =
-      moved-in-two Down ≤ℤ-refl down-trans (λ x. getD best x (pos 0)) (λ x. (x < j) × (getD places x 0 ≡ i)) (λ x. (x ≡ j) × (at ≡ i)) (Both i)
+      moved-in-two Down ≤ℤ-refl down-trans _ _ (λ x. (x ≡ j) × (at ≡ i)) (Both i)
       (from-first i) (λ x h. subst (Both i) (sym (h .0)) (from-entry i (h .1))) (of-both i) _ _ _ (so-far .lowered i)
       (lowered-entry (λ x. getD best x (pos 0)) at j after next (omega (arith, so-far .as-long)) (stored ∙ ap (λ (b : ℤ). set after at (smaller (getD after at (pos 0)) b)) is-bound) i)
 
   -- to one bound more, which is on the next place
-  pub one-more-lowered : j < length places → getD places j 0 < length before → next ≡ set after (getD places j 0) (smaller (getD after (getD places j 0) (pos 0)) bound) → LoweredUpTo best places (j + 1) before next
+  pub one-more-lowered : j < length places → getD places j 0 < length before
+      → next ≡ set after (getD places j 0) (smaller (getD after (getD places j 0) (pos 0)) bound)
+      → LoweredUpTo best places (j + 1) before next
   one-more-lowered more inside stored = record {
     within = omega arith;
     as-long = ap length stored ∙ length-set after (getD places j 0) (smaller (getD after (getD places j 0) (pos 0)) bound) ∙ so-far .as-long;

@@ -53,7 +53,8 @@ module _ (cs ds ts : List ℕ) (shaped : Shaped cs ds ts) (k : ℕ) where
     pub bound-attained : i < length rows → (x : ℕ) → (x ≡ k) × T (touches rows i x) → Attained entry (IsOn hs k i) (bound rows x i)
     bound-attained inside x touched =
         subst (λ (y : ℕ). Attained entry (IsOn hs k i) (bound rows y i)) (sym (touched .0))
-        (⊎-elim (λ same. found (length hs) (itself refl (eqb→eq k i same))) (λ is-rival. let place = stands-in (each-rival-held cs ds ts shaped k i inside is-rival) in found (place .place) (a-rival (place .inside) (place .there)))
+        (⊎-elim (λ same. found (length hs) (itself refl (eqb→eq k i same)))
+        (λ is-rival. let place = stands-in (each-rival-held cs ds ts shaped k i inside is-rival) in found (place .place) (a-rival (place .inside) (place .there)))
         (or-cases (eqb k i) (rival rows i k) (subst (λ (y : ℕ). T (touches rows i y)) (touched .0) (touched .1))))
       where
         found : (j : ℕ) → IsOn hs k i j → Attained entry (IsOn hs k i) (bound rows k i)
