@@ -36,8 +36,8 @@ pub fn bounds_of(c: &[u32], d: &[u32], t: &[u32], order: &[usize; 24], k: usize)
 }
 
 // Lowers an entry to a number, where that is smaller.
-fn lower_entry(allowed: &mut [i64; 24], i: usize, bound: i64)
-    requires { ⌜ i < 24 ⌝ }
+fn lower_entry(allowed: &mut [i64], i: usize, bound: i64)
+    requires { ⌜ i < length (now allowed) ⌝ }
     ensures { λ _. ⌜ now (allowed .exit) ≡ set (now (allowed .entry)) i (smaller (getD (now (allowed .entry)) i (pos 0)) bound) ⌝ }
 {
     if bound < allowed[i] {
@@ -46,14 +46,15 @@ fn lower_entry(allowed: &mut [i64; 24], i: usize, bound: i64)
 }
 
 // Lowers the allowance of each row that row k's bounds are on: its rivals, and then itself.
-fn lower(allowed: &mut [i64; 24], best: &[i64], place: &[usize], k: usize)
+fn lower(allowed: &mut [i64], best: &[i64], place: &[usize], k: usize)
     requires { ⌜ length (now place) < length (now best) ⌝ }
-    requires { ⌜ All (λ h. h < 24) (now place) × (k < 24) ⌝ }
-    ensures { λ _. ⌜ ((i : ℕ) → i < 24 → LoweredTo (λ j. getD (now (best .entry)) j (pos 0)) (IsOn (now (place .entry)) k i) (getD (now (allowed .entry)) i (pos 0)) (getD (now (allowed .exit)) i (pos 0))) ⌝ }
+    requires { ⌜ All (λ h. h < length (now allowed)) (now place) × (k < length (now allowed)) ⌝ }
+    ensures { λ _. ⌜ ((i : ℕ) → LoweredTo (λ j. getD (now (best .entry)) j (pos 0)) (IsOn (now (place .entry)) k i) (getD (now (allowed .entry)) i (pos 0)) (getD (now (allowed .exit)) i (pos 0))) ⌝ }
 {
     let mut j = 0;
     while j < place.len() {
-        lower_entry(allowed, place[j], best[j]);
+        let i = place[j];
+        lower_entry(allowed, i, best[j]);
         j += 1;
     }
     lower_entry(allowed, k, best[j]);
@@ -85,10 +86,10 @@ pub fn as_numbers(allowed: &[i64]) -> [u32; 24]
     ensures { λ r. ⌜ ((i : ℕ) → i < length (now (allowed .entry)) → pos (getD r i 0) ≡ getD (now (allowed .entry)) i (pos 0)) ⌝ }
 {
     let mut numbers = [0u32; 24];
-    let mut j = 0;
-    while j < allowed.len() {
-        numbers[j] = allowed[j] as u32;
-        j += 1;
+    let mut i = 0;
+    while i < allowed.len() {
+        numbers[i] = allowed[i] as u32;
+        i += 1;
     }
     numbers
 }

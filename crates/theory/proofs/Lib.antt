@@ -21,6 +21,9 @@ pub mod Walk
 pub mod Ascending
 pub mod Signed
 pub mod Moved
+pub mod Greater
+pub mod Attained
+pub mod QuotientRange
 pub mod Rank
 pub mod Verdict
 pub mod Raise

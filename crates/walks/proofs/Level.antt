@@ -3,18 +3,20 @@ use mathlib.Core.Path.{_≡_, subst, sym}
 use Prim.Native.Nat.{ℕ, suc, max, _≤_, _<_}
 use mathlib.Core.List.{List}
 use native.Mathlib.Omega.{arith}
-use lib.IntN.{ℤ, pos}
+use lib.IntN.{ℤ}
 use lib.ListN.{length, getD}
+use lib.Signed.{≤ℤ-refl}
 use Rattle.theory.specs.Points.{lastMultiple}
-use Rattle.walks.specs.Quotients.{quotientOf, NewPoints, AllRaised}
-use Rattle.walks.proofs.Raised.{raised-to-nothing, raised-in-two, raised-alike}
+use Rattle.theory.proofs.Signed.{≤ℤ-trans}
+use Rattle.theory.proofs.Moved.{moved-to-nothing, moved-in-two, moved-alike}
+use Rattle.walks.specs.Quotients.{NewPoints, AllRaised}
 use Rattle.walks.proofs.NewPoints.{none-new, start-new, new-is-start, new-from-time, new-from-multiple, new-of-time, new-of-both}
 
 module _ (own : ℕ) (cs ts : List ℕ) (level time last : ℕ) where
   -- a time not above the last one
   pub nothing-raised : time ≤ last → (best : List ℤ) → AllRaised own cs ts (NewPoints cs ts level time last) best best
   nothing-raised h best =
-      λ k inside. raised-to-nothing (quotientOf own cs ts k) (NewPoints cs ts level time last) (λ p. none-new cs ts level time last p h) (getD best k (pos 0))
+      λ k inside. moved-to-nothing _ ≤ℤ-refl ≤ℤ-trans _ _ (λ p. none-new cs ts level time last p h) _
 
   -- level 0
   pub start-raised : last < time → level ≡ 0
@@ -23,7 +25,7 @@ module _ (own : ℕ) (cs ts : List ℕ) (level time last : ℕ) where
       → AllRaised own cs ts (NewPoints cs ts level time last) before after
   start-raised h zero-level before after r =
       subst (λ (n : ℕ). AllRaised own cs ts (NewPoints cs ts n time last) before after) (sym zero-level)
-      (λ k inside. raised-alike (quotientOf own cs ts k) (λ x. x ≡ time) (NewPoints cs ts 0 time last) (λ p. start-new cs ts time last p h) (λ p. new-is-start cs ts time last p) (getD before k (pos 0)) (getD after k (pos 0)) (r k inside))
+      (λ k inside. moved-alike _ ≤ℤ-refl ≤ℤ-trans _ _ _ (λ p. start-new cs ts time last p h) (λ p. new-is-start cs ts time last p) _ _ (r k inside))
 
   -- the level one above level j, whose multiple is s
   module _ (as-many : length ts ≡ length cs) (j : ℕ) (one-above : level ≡ suc j) (s : ℕ) (multiple : s ≡ lastMultiple (getD ts j 0) time) where
@@ -33,7 +35,9 @@ module _ (own : ℕ) (cs ts : List ℕ) (level time last : ℕ) where
         → AllRaised own cs ts (NewPoints cs ts j time last) before after
         → AllRaised own cs ts (NewPoints cs ts level time last) before after
     time-raised none before after r =
-        λ k inside. raised-alike (quotientOf own cs ts k) (NewPoints cs ts j time last) (NewPoints cs ts level time last) (λ p. new-from-time cs ts as-many level j one-above time last s multiple last p (omega arith)) (λ p. new-of-time cs ts as-many level j one-above time last s multiple p none) (getD before k (pos 0)) (getD after k (pos 0)) (r k inside)
+        λ k inside. moved-alike _ ≤ℤ-refl ≤ℤ-trans _ _ _
+        (λ p. new-from-time _ _ as-many _ _ one-above _ _ _ multiple last p (omega arith))
+        (λ p. new-of-time _ _ as-many _ _ one-above _ _ _ multiple p none) _ _ (r k inside)
 
     -- else the level below from the multiple, and then from the time
     pub both-raised : 0 < s
@@ -44,4 +48,7 @@ module _ (own : ℕ) (cs ts : List ℕ) (level time last : ℕ) where
         → AllRaised own cs ts (NewPoints cs ts j time reached) middle after
         → AllRaised own cs ts (NewPoints cs ts level time last) before after
     both-raised some reached further before middle after first second =
-        λ k inside. raised-in-two (quotientOf own cs ts k) (NewPoints cs ts j s last) (NewPoints cs ts j time reached) (NewPoints cs ts level time last) (λ p. new-from-multiple cs ts as-many level j one-above time last s multiple p some) (λ p. new-from-time cs ts as-many level j one-above time last s multiple reached p (omega arith)) (λ p. new-of-both cs ts as-many level j one-above time last s multiple reached p further) (getD before k (pos 0)) (getD middle k (pos 0)) (getD after k (pos 0)) (first k inside) (second k inside)
+        λ k inside. moved-in-two _ ≤ℤ-refl ≤ℤ-trans _ _ _ _
+        (λ p. new-from-multiple _ _ as-many _ _ one-above _ _ _ multiple p some)
+        (λ p. new-from-time _ _ as-many _ _ one-above _ _ _ multiple reached p (omega arith))
+        (λ p. new-of-both _ _ as-many _ _ one-above _ _ _ multiple reached p further) _ _ _ (first k inside) (second k inside)

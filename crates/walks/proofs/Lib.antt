@@ -1,4 +1,5 @@
 -- The laws that the proofs of the walk stand on.
+pub mod Held
 pub mod Rounding
 pub mod Quotients
 pub mod Raised

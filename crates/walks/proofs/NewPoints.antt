@@ -1,15 +1,15 @@
 -- The points of the walk above the last one visited: none up to that one, the start alone at level 0, and at a level those of the level below from the
 -- multiple and then, above it, those from the time.
 use mathlib.Core.Path.{_≡_, refl, sym, ap, _∙_, subst}
-use Prim.Native.Nat.{ℕ, zero, suc, max, _≤_, _<_}
+use Prim.Native.Nat.{ℕ, suc, max, _≤_, _<_}
 use mathlib.Core.Bool.{Bool, true, false}
 use mathlib.Core.Logic.{_⊎_, inl, inr, ⊎-elim}
-use mathlib.Core.List.{List, List·Memᴰ, List·Memᴰ·head, List·Memᴰ·eq-of-singleton}
+use mathlib.Core.List.{List, List·Memᴰ, List·Memᴰ·eq-of-singleton}
 use native.Mathlib.Omega.{arith}
 use borrow.Author.Tests.{ltb-true, ltb-false}
 use lib.Dec.{ltb}
 use lib.ListN.{length, getD}
-use Rattle.theory.specs.Row.{Row, rowAt}
+use Rattle.theory.specs.Row.{Row}
 use Rattle.theory.specs.Points.{lastMultiple, walk}
 use Rattle.theory.specs.Lists.{rowsOf}
 use Rattle.theory.proofs.Ceil.{multiple-below}
@@ -26,6 +26,7 @@ none-new cs ts level time last p h m = omega (arith, walk-within (rowsOf cs ts t
 pub start-new : (cs ts : List ℕ) (time last p : ℕ) → last < time → p ≡ time → NewPoints cs ts 0 time last p
 start-new cs ts time last p h e = (rw e (walk-start (rowsOf cs ts ts) 0 time), omega arith)
 
+-- and nothing else
 pub new-is-start : (cs ts : List ℕ) (time last p : ℕ) → NewPoints cs ts 0 time last p → p ≡ time
 unfolding walk
 new-is-start cs ts time last p m = List·Memᴰ·eq-of-singleton (m .0)

@@ -1,42 +1,18 @@
 -- The steps of a division rounded towards minus infinity, as 64 bits hold them: each fits, and the last is the floor.
-use mathlib.Core.Path.{_≡_, refl, sym, ap, _∙_, subst, subst₂}
-use Prim.Native.Nat.{ℕ, zero, suc, _/_, _^_, _≤_, _<_}
-use mathlib.Core.Bool.{Bool, true, false}
+use mathlib.Core.Path.{_≡_, refl, sym, ap, _∙_, subst}
+use Prim.Native.Nat.{ℕ, zero, suc, _/_, _^_, _<_}
+use mathlib.Core.Bool.{true, false}
 use native.Mathlib.Omega.{arith}
 use native.Mathlib.Nat.{zero-div, div-le-self}
-use borrow.Author.Tests.{ltb-true, ltb-false}
-use lib.Dec.{ltb}
+use borrow.Author.Tests.{ltb-true}
 use lib.IntN.{ℤ, pos, negsuc, negℤ, natAbs, _+ℤ_, _-ℤ_, +ℤ-one, -ℤ-one}
-use lib.Signed.{mag, ltZ, quotZ, _≤ℤ_}
+use lib.Signed.{ltZ, quotZ, _≤ℤ_}
 use mir.Syntax.{w64}
-use mir.Val.{SFits, ofZ, toZ}
+use mir.Val.{SFits, ofZ}
 use mir.ValLaws.{toZ-ofZ}
 use Rattle.theory.specs.Points.{floorDiv}
-use Rattle.theory.proofs.Signed.{le-pos, difference, shortfall}
-
--- a number as 64 bits hold it
-abbrev pub held : ℤ → ℤ
-held z = toZ w64 (ofZ w64 z)
-
--- a number within the bounds of 64 bits is held as it is
-pub held-as-it-is : (z : ℤ) → mag z < 2 ^ 63 → held z ≡ z
-held-as-it-is z h = toZ-ofZ w64 z (record { sfits = h })
-
--- a test of two numbers that fit, as 64 bits hold them, is the numbers' own
-pub own-order : (a b : ℤ) (less : Bool) → SFits w64 a → SFits w64 b → ltZ (held a) (held b) ≡ less → ltZ a b ≡ less
-own-order a b less f g e = subst₂ (λ (x y : ℤ). ltZ x y ≡ less) (toZ-ofZ w64 a f) (toZ-ofZ w64 b g) e
-
--- 0 fits
-zero-fits : SFits w64 (pos 0)
-zero-fits = record { sfits = omega arith }
-
--- the difference of two natural numbers that fit
-pub difference-fits : (a b : ℕ) → a < 2 ^ 63 → b < 2 ^ 63 → SFits w64 (pos a -ℤ pos b)
-difference-fits a b h k = go (ltb a b) refl
-  where
-    go : (less : Bool) → ltb a b ≡ less → SFits w64 (pos a -ℤ pos b)
-    go true e = rw (shortfall a b (ltb-true a b e)) (record { sfits = omega arith })
-    go false e = rw (difference a b (ltb-false a b e)) (record { sfits = omega arith })
+use Rattle.theory.proofs.Signed.{le-pos}
+use Rattle.walks.proofs.Held.{held, zero-fits, own-order}
 
 -- one more than a negative number
 negative-next : (n : ℕ) → negsuc n +ℤ pos 1 ≡ negℤ (pos n)
@@ -70,6 +46,7 @@ pub record BelowZero (z m : ℤ) : Type 0 where
   pub less-fits : SFits w64 (held (quotZ (held (held z +ℤ pos 1)) (held m)) -ℤ pos 1)
   pub rounded : held (held (quotZ (held (held z +ℤ pos 1)) (held m)) -ℤ pos 1) ≡ floorDiv z (natAbs m)
 
+-- these steps round a number below 0
 pub below-zero : (z m : ℤ) → SFits w64 z → SFits w64 m → pos 1 ≤ℤ m → ltZ (held z) (pos 0) ≡ true → BelowZero z m
 unfolding floorDiv
 below-zero (pos n) m z-fits m-fits some negative =
@@ -109,6 +86,7 @@ pub record FromZero (z m : ℤ) : Type 0 where
   pub quotient-fits : SFits w64 (quotZ (held z) (held m))
   pub rounded : held (quotZ (held z) (held m)) ≡ floorDiv z (natAbs m)
 
+-- this step rounds a number from 0 up
 pub from-zero : (z m : ℤ) → SFits w64 z → SFits w64 m → pos 1 ≤ℤ m → ltZ (held z) (pos 0) ≡ false → FromZero z m
 unfolding floorDiv
 from-zero (negsuc n) m z-fits m-fits some from =

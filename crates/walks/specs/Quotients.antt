@@ -1,15 +1,12 @@
 -- The quotients of a row at a point, one for each row above it and one for itself, and a list of numbers raised to the greatest of them.
-use mathlib.Core.Path.{_≡_}
 use Prim.Native.Nat.{ℕ, _≤_, _<_}
 use mathlib.Core.Bool.{true, false}
-use mathlib.Core.Logic.{_⊎_}
 use mathlib.Core.List.{List, List·Memᴰ}
 use lib.Dec.{ltb}
 use lib.IntN.{ℤ, pos, _-ℤ_}
 use lib.ListN.{length, getD}
-use lib.Signed.{ltZ, _≤ℤ_}
-use Rattle.theory.specs.Row.{Row}
 use Rattle.theory.specs.Response.{ceil}
+use Rattle.theory.specs.Moved.{RaisedTo}
 use Rattle.theory.specs.Points.{floorDiv, walk}
 use Rattle.theory.specs.Lists.{rowsOf}
 use Rattle.demands.specs.Levels.{loadOf}
@@ -21,16 +18,6 @@ divisorOf ts j p = elim (ltb j (length ts)) [ true ↦ ceil p (getD ts j 0) | fa
 -- the quotient of entry j at p
 unfoldable pub quotientOf : ℕ → List ℕ → List ℕ → ℕ → ℕ → ℤ
 quotientOf own cs ts j p = floorDiv (pos p -ℤ pos (loadOf own cs ts p)) (divisorOf ts j p)
-
--- the greater of two numbers
-unfoldable pub greater : ℤ → ℤ → ℤ
-greater a b = elim (ltZ a b) [ true ↦ b | false ↦ a ]
-
--- a number raised to the greatest of itself and what a function gives at the numbers that were visited
-pub record RaisedTo (value : ℕ → ℤ) (Visited : ℕ → Type 0) (before after : ℤ) : Type 0 where
-  pub no-less : before ≤ℤ after
-  pub over-visited : (p : ℕ) → Visited p → value p ≤ℤ after
-  pub attained : (after ≡ before) ⊎ ((p : ℕ) × Visited p × (value p ≡ after))
 
 -- the points of the walk at a level from a time that are above a last one
 abbrev pub NewPoints : List ℕ → List ℕ → ℕ → ℕ → ℕ → ℕ → Type 0

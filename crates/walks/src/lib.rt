@@ -4,9 +4,10 @@ ghost use Prim.Native.Nat.{_≤_, _<_, max};
 ghost use lib.IntN.{pos, natAbs, _-ℤ_};
 ghost use lib.Signed.{_≤ℤ_};
 ghost use lib.ListN.{length, getD, set};
+ghost use Rattle.theory.specs.Moved.{greater};
 ghost use Rattle.theory.specs.Points.{floorDiv, lastMultiple};
 ghost use Rattle.demands.specs.Levels.{Small, loadOf};
-ghost use Rattle.walks.specs.Quotients.{greater, NewPoints, AllRaised};
+ghost use Rattle.walks.specs.Quotients.{NewPoints, AllRaised};
 
 fn wide(x: u32) -> i64
     ensures { λ r. ⌜ r ≡ pos x ⌝ }

@@ -40,34 +40,19 @@ abbrev Ready : ℕ → ℕ → ℕ → List ℕ → List ℕ → List ℤ → Ty
 Ready level time own cs ts best =
     Small cs ts × ((level ≤ length cs) × (((1 ≤ time) × (time ≤ 1_000_000) × (own ≤ 1_000_000)) × (length cs < length best)))
 
--- is there one level down, at a time from 1 up that is not behind
-one-down : (n level time own : ℕ) (cs ts : List ℕ) (best next : List ℤ) (s : ℕ)
+-- one level down it has that, at a time from 1 up that is not behind, with a list as long
+one-down : (best next : List ℤ) (n level time own : ℕ) (cs ts : List ℕ) (s : ℕ)
     → (level ≡ n) × Ready level time own cs ts best
     → (level ≡ 0 → ⊥)
     → 1 ≤ s
     → s ≤ time
     → length next ≡ length best
     → (level - 1 < n) × Ready (level - 1) s own cs ts next
-one-down n level time own cs ts best next s given not-zero some within as-long =
+one-down best next n level time own cs ts s given not-zero some within as-long =
     (omega arith, (given .1 .0, (omega arith, ((some, omega arith, given .1 .1 .1 .0 .2), omega arith))))
-
-returns : (n : ℕ) → walk-on-lts.Need-returns (calls n) (at n) walk-on.Post
-returns n c =
-    let a = c .before .before .before .args in (omega (arith, c .if1 .taken), nothing-raised (a .own) (a .c .now) (a .t .now) (a .level) (a .time) (a .last) (c .if1 .taken) (a .best .now))
 
 visit-requires : (n : ℕ) → walk-on-lts.Need-visit-requires (calls n) (at n) walk-on.Post
 visit-requires n c κs = let given = c .before .before .before .before .before .pre .1 in (given .0, (given .1 .1 .0, given .1 .1 .1))
-
-same-length : (n : ℕ) → walk-on-lts.Need-same-length (calls n) (at n) walk-on.Post
-same-length n c = c .before .visit .kept .1 .1 .1 .1 .0
-
-returns-2 : (n : ℕ) → walk-on-lts.Need-returns-2 (calls n) (at n) walk-on.Post
-returns-2 n c =
-    let a = c .before .before .before .before .before .before .before .args in
-    let further = c .before .before .before .before .if1 .left in (
-      omega (arith, further),
-      start-raised (a .own) (a .c .now) (a .t .now) (a .level) (a .time) (a .last) further (c .before .before .before .if2 .taken) (a .best .now) (c .before .visit .last .1 .1 .1 .1 .0) (c .before .visit .ensures),
-    )
 
 sub-below : (n : ℕ) → walk-on-lts.Need-sub-below (calls n) (at n) walk-on.Post
 sub-below n c = omega (arith, c .if2 .left)
@@ -86,10 +71,42 @@ walk-on-requires : (n : ℕ) → walk-on-lts.Need-walk-on-requires (calls n) (at
 walk-on-requires n c κs =
     let start = c .before .before .before .before .before .before .before .before in
     let a = start .args in
-    one-down n (a .level) (a .time) (a .own) (a .c .now) (a .t .now) (a .best .now) (a .best .now) (a .time) (start .pre) (c .before .before .before .before .if2 .left) (start .pre .1 .1 .1 .0 .0) (omega arith) refl
+    one-down (a .best .now) (a .best .now) _ _ _ _ _ _ _ (start .pre) (c .before .before .before .before .if2 .left) (start .pre .1 .1 .1 .0 .0) (omega arith) refl
+
+walk-on-requires-2 : (n : ℕ) → walk-on-lts.Need-walk-on-requires-2 (calls n) (at n) walk-on.Post
+walk-on-requires-2 n c κs =
+    let start = c .before .before .before .before .before .before .before .before in
+    let a = start .args in
+    let multiple = c .before .before .last-multiple in
+    one-down (a .best .now) (a .best .now) _ _ _ _ _ _ _ (start .pre) (c .before .before .before .before .if2 .left) (omega (arith, c .before .if3 .left)) (omega (arith, multiple .ensures, multiple-below (getD (a .t .now) (a .level - 1) 0) (a .time))) refl
+
+walk-on-requires-3 : (n : ℕ) → walk-on-lts.Need-walk-on-requires-3 (calls n) (at n) walk-on.Post
+walk-on-requires-3 n c κs =
+    let start = c .before .before .before .before .before .before .before .before .before .before .before in
+    let a = start .args in
+    let first = c .before .before .walk-on2 in
+    one-down (a .best .now) (first .last .1 .1 .1 .1 .1 .1 .0) _ _ _ _ _ _ _ (start .pre) (c .before .before .before .before .before .before .before .if2 .left) (start .pre .1 .1 .1 .0 .0) (omega arith) (first .kept .1 .1 .1 .1 .1 .1 .0)
+
+same-length : (n : ℕ) → walk-on-lts.Need-same-length (calls n) (at n) walk-on.Post
+same-length n c = c .before .visit .kept .1 .1 .1 .1 .0
 
 same-length-2 : (n : ℕ) → walk-on-lts.Need-same-length-2 (calls n) (at n) walk-on.Post
 same-length-2 n c = c .before .walk-on .kept .1 .1 .1 .1 .1 .1 .0
+
+same-length-3 : (n : ℕ) → walk-on-lts.Need-same-length-3 (calls n) (at n) walk-on.Post
+same-length-3 n c = c .before .walk-on3 .kept .1 .1 .1 .1 .1 .1 .0 ∙ c .before .before .before .before .walk-on2 .kept .1 .1 .1 .1 .1 .1 .0
+
+returns : (n : ℕ) → walk-on-lts.Need-returns (calls n) (at n) walk-on.Post
+returns n c =
+    let a = c .before .before .before .args in (omega (arith, c .if1 .taken), nothing-raised _ _ _ _ _ _ (omega (arith, c .if1 .taken)) (a .best .now))
+
+returns-2 : (n : ℕ) → walk-on-lts.Need-returns-2 (calls n) (at n) walk-on.Post
+returns-2 n c =
+    let a = c .before .before .before .before .before .before .before .args in
+    let further = c .before .before .before .before .if1 .left in (
+      omega (arith, further),
+      start-raised _ _ _ _ _ _ (omega (arith, further)) (c .before .before .before .if2 .taken) (a .best .now) (c .before .visit .last .1 .1 .1 .1 .0) (c .before .visit .ensures),
+    )
 
 returns-3 : (n : ℕ) → walk-on-lts.Need-returns-3 (calls n) (at n) walk-on.Post
 returns-3 n c =
@@ -97,25 +114,8 @@ returns-3 n c =
     let a = start .args in
     let multiple = c .before .before .before .before .last-multiple in (
       c .before .walk-on .ensures .0,
-      time-raised (a .own) (a .c .now) (a .t .now) (a .level) (a .time) (a .last) (start .pre .1 .0 .as-many) (a .level - 1) (omega (arith, c .before .before .before .before .before .before .if2 .left)) (multiple .result) (multiple .ensures) (c .before .before .before .if3 .taken) (a .best .now) (c .before .walk-on .last .1 .1 .1 .1 .1 .1 .0) (c .before .walk-on .ensures .1),
+      time-raised _ _ _ _ _ _ (start .pre .1 .0 .as-many) (a .level - 1) (omega (arith, c .before .before .before .before .before .before .if2 .left)) (multiple .result) (multiple .ensures) (c .before .before .before .if3 .taken) (a .best .now) (c .before .walk-on .last .1 .1 .1 .1 .1 .1 .0) (c .before .walk-on .ensures .1),
     )
-
-walk-on-requires-2 : (n : ℕ) → walk-on-lts.Need-walk-on-requires-2 (calls n) (at n) walk-on.Post
-walk-on-requires-2 n c κs =
-    let start = c .before .before .before .before .before .before .before .before in
-    let a = start .args in
-    let multiple = c .before .before .last-multiple in
-    one-down n (a .level) (a .time) (a .own) (a .c .now) (a .t .now) (a .best .now) (a .best .now) (multiple .result) (start .pre) (c .before .before .before .before .if2 .left) (omega (arith, c .before .if3 .left)) (omega (arith, multiple .ensures, multiple-below (getD (a .t .now) (a .level - 1) 0) (a .time))) refl
-
-walk-on-requires-3 : (n : ℕ) → walk-on-lts.Need-walk-on-requires-3 (calls n) (at n) walk-on.Post
-walk-on-requires-3 n c κs =
-    let start = c .before .before .before .before .before .before .before .before .before .before .before in
-    let a = start .args in
-    let first = c .before .before .walk-on2 in
-    one-down n (a .level) (a .time) (a .own) (a .c .now) (a .t .now) (a .best .now) (first .last .1 .1 .1 .1 .1 .1 .0) (a .time) (start .pre) (c .before .before .before .before .before .before .before .if2 .left) (start .pre .1 .1 .1 .0 .0) (omega arith) (first .kept .1 .1 .1 .1 .1 .1 .0)
-
-same-length-3 : (n : ℕ) → walk-on-lts.Need-same-length-3 (calls n) (at n) walk-on.Post
-same-length-3 n c = c .before .walk-on3 .kept .1 .1 .1 .1 .1 .1 .0 ∙ c .before .before .before .before .walk-on2 .kept .1 .1 .1 .1 .1 .1 .0
 
 returns-4 : (n : ℕ) → walk-on-lts.Need-returns-4 (calls n) (at n) walk-on.Post
 returns-4 n c =
@@ -125,7 +125,7 @@ returns-4 n c =
     let first = c .before .before .before .before .walk-on2 in
     let second = c .before .walk-on3 in (
       omega (arith, first .ensures .0, second .ensures .0, multiple .ensures, multiple-below (getD (a .t .now) (a .level - 1) 0) (a .time), c .before .before .before .before .before .before .before .before .before .before .if1 .left),
-      both-raised (a .own) (a .c .now) (a .t .now) (a .level) (a .time) (a .last) (start .pre .1 .0 .as-many) (a .level - 1) (omega (arith, c .before .before .before .before .before .before .before .before .before .if2 .left)) (multiple .result) (multiple .ensures) (omega (arith, c .before .before .before .before .before .before .if3 .left)) (first .result) (first .ensures .0) (a .best .now) (first .last .1 .1 .1 .1 .1 .1 .0) (second .last .1 .1 .1 .1 .1 .1 .0) (first .ensures .1) (second .ensures .1),
+      both-raised _ _ _ _ _ _ (start .pre .1 .0 .as-many) (a .level - 1) (omega (arith, c .before .before .before .before .before .before .before .before .before .if2 .left)) (multiple .result) (multiple .ensures) (omega (arith, c .before .before .before .before .before .before .if3 .left)) (first .result) (first .ensures .0) (a .best .now) (first .last .1 .1 .1 .1 .1 .1 .0) (second .last .1 .1 .1 .1 .1 .1 .0) (first .ensures .1) (second .ensures .1),
     )
 
 pub +walk-on-spec : {M : Type 1} → statement M

@@ -10,6 +10,12 @@ below c = let s = c .before in below-zero (s .args .z) (s .args .m) (s .fits .z)
 from : (c : tie.Else1) → FromZero (c .before .args .z) (c .before .args .m)
 from c = let s = c .before in from-zero (s .args .z) (s .args .m) (s .fits .z) (s .fits .m) (s .pre) (c .if1 .left)
 
+returns : tie.Need-returns
+returns c = below c .rounded
+
+returns-2 : tie.Need-returns-2
+returns-2 c = from c .rounded
+
 add-result : tie.Need-add-result
 add-result c = below c .next-fits
 
@@ -21,12 +27,6 @@ sub-result c = below c .less-fits
 
 div-result-2 : tie.Need-div-result-2
 div-result-2 c = (divisor-positive (c .before .args .m) (c .before .pre), from c .quotient-fits)
-
-returns : tie.Need-returns
-returns c = below c .rounded
-
-returns-2 : tie.Need-returns-2
-returns-2 c = from c .rounded
 
 pub floor-div-spec : {M : Type 1} → statement M
 floor-div-spec =

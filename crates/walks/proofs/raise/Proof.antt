@@ -1,4 +1,4 @@
--- `walks::raise` meets its contract.
+-- `walks::raise` meets its contract: a number that is not greater leaves the list as it was.
 use mathlib.Core.Path.{_≡_, sym, ap, _∙_}
 use mathlib.Core.Bool.{true, false}
 use borrow.Author.Needs.{needs}
@@ -8,12 +8,10 @@ use lib.ListN.{getD, set}
 use lib.Seq.{set-getD}
 use mir.Syntax.{w64}
 use mir.ValLaws.{toZ-ofZ}
-use Rattle.walks.proofs.Rounding.{own-order}
-use Rattle.walks.proofs.Raised.{greater-first, greater-second}
+use Rattle.theory.proofs.Greater.{greater-first, greater-second}
+use Rattle.walks.proofs.Held.{own-order}
 use Rattle.walks.proofs.raise.Statement.{statement}
 use Rattle.walks.proofs.raise.Tie as tie
-use Rattle.walks.proofs.raise.Reads as reads
-use Rattle.walks.proofs.raise.Lts as lts
 
 mul-if1 : tie.Need-mul-if1
 mul-if1 c = search needs

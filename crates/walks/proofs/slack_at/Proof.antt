@@ -8,13 +8,9 @@ use mir.Syntax.{w64}
 use mir.Val.{SFits}
 use mir.ValLaws.{toZ-ofZ}
 use Rattle.demands.specs.Levels.{loadOf}
-use Rattle.walks.proofs.Rounding.{held, held-as-it-is, difference-fits}
+use Rattle.walks.proofs.Held.{held, held-as-it-is, difference-fits}
 use Rattle.walks.proofs.slack_at.Statement.{statement}
 use Rattle.walks.proofs.slack_at.Tie as tie
-use Rattle.walks.proofs.slack_at.Reads as reads
-use Rattle.walks.proofs.slack_at.Lts as lts
-use Rattle.demands.proofs.demand.Reads as demand-reads
-use Rattle.walks.proofs.wide.Reads as wide-reads
 
 wide-requires : tie.Need-wide-requires
 wide-requires c κs = search needs
@@ -28,10 +24,11 @@ add-wide c = search needs
 wide-requires-2 : tie.Need-wide-requires-2
 wide-requires-2 c κs = search needs
 
--- the difference is the slack, and it fits
+-- the slack at the time
 slack-of : tie.After-wide2 → ℤ
 slack-of c = let a = c .before .before .before .before .before .args in pos (a .p) -ℤ pos (loadOf (a .own) (a .c .now) (a .t .now) (a .p))
 
+-- the difference is the slack
 is-slack : (c : tie.After-wide2) → held (c .before .before .wide .result) -ℤ held (c .wide2 .result) ≡ slack-of c
 unfolding slack-of
 is-slack c =
@@ -42,6 +39,7 @@ is-slack c =
     (held-as-it-is (c .before .before .wide .result) (c .before .before .wide .ok) ∙ c .before .before .wide .ensures)
     (held-as-it-is (c .wide2 .result) (c .wide2 .ok) ∙ load)
 
+-- it fits
 slack-fits : (c : tie.After-wide2) → SFits w64 (slack-of c)
 unfolding slack-of
 slack-fits c =

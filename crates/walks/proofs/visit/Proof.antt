@@ -9,20 +9,13 @@ use Rattle.theory.specs.Response.{ceil}
 use Rattle.theory.specs.Points.{floorDiv}
 use Rattle.theory.proofs.Ceil.{ceil-positive}
 use Rattle.theory.proofs.Signed.{pos-le}
-use Rattle.walks.proofs.Rounding.{held, held-as-it-is}
+use Rattle.walks.proofs.Held.{held, held-as-it-is}
 use Rattle.demands.specs.Levels.{loadOf}
 use Rattle.walks.proofs.Quotients.{quotient-above, quotient-own}
 use Rattle.walks.specs.Quotients.{quotientOf}
 use Rattle.walks.proofs.Raised.{RaisedUpTo, none-raised, one-more-raised}
 use Rattle.walks.proofs.visit.Statement.{statement}
 use Rattle.walks.proofs.visit.Tie as tie
-use Rattle.walks.proofs.visit.Reads as reads
-use Rattle.walks.proofs.visit.Lts as lts
-use Rattle.demands.proofs.jobs.Reads as jobs-reads
-use Rattle.walks.proofs.floor_div.Reads as floor-div-reads
-use Rattle.walks.proofs.raise.Reads as raise-reads
-use Rattle.walks.proofs.slack_at.Reads as slack-at-reads
-use Rattle.walks.proofs.wide.Reads as wide-reads
 
 abbrev Inv-loop : tie.InvT-loop
 Inv-loop p own c t best₀ slack j₀ best j = (j ≤ length c) × RaisedUpTo (quotientOf own c t) p j best₀ best
@@ -35,7 +28,7 @@ slack-at-requires c κs = let start = c .before .before in (start .pre .0, (star
 
 loop-holds : tie.Need-loop-holds Inv-loop μ-loop
 loop-holds c =
-    let a = c .before .before .before .args in (omega arith, none-raised (quotientOf (a .own) (a .c .now) (a .t .now)) (a .p) (a .best .now))
+    let a = c .before .before .before .args in (omega arith, none-raised _ _ _)
 
 mul-jobs : tie.Need-mul-jobs Inv-loop μ-loop
 mul-jobs c = omega (arith, c .before .before .before .before .before .before .pre .0 .few)
@@ -87,7 +80,7 @@ quotient-is c =
     held-as-it-is (c .floor-div .result) (c .floor-div .ok)
     ∙ c .floor-div .ensures
     ∙ ap₂ (λ (z m : ℤ). floorDiv z (natAbs m)) (dividend-is (c .before .before .before .before .before .before .before)) (divisor-is (c .before))
-    ∙ quotient-above (a .own) (a .c .now) (a .t .now) at (a .p) (omega (arith, start .pre .0 .as-many, c .before .before .before .before .before .loop-test .taken))
+    ∙ quotient-above _ _ _ _ _ (omega (arith, start .pre .0 .as-many, c .before .before .before .before .before .loop-test .taken))
 
 add-j : tie.Need-add-j Inv-loop μ-loop
 add-j c = omega (arith, c .before .before .before .before .before .before .before .loop-test .taken, c .before .before .before .before .before .before .before .before .before .before .before .before .pre .0 .few)
@@ -102,7 +95,7 @@ loop-again c =
     let loop = c .before .before .before .before .before .before .before .before .loop in
     let inside : loop .j < length (a .c .now) = c .before .before .before .before .before .before .before .loop-test .taken in (
       omega arith,
-      one-more-raised (quotientOf (a .own) (a .c .now) (a .t .now)) (a .p) (loop .j) (a .best .now) (loop .best) (c .before .raise .last .0) (held (c .before .before .floor-div .result)) (loop .inv .1) (omega (arith, start .pre .1 .1)) (c .before .raise .ensures) (quotient-is (c .before .before)),
+      one-more-raised _ _ _ _ _ _ _ (loop .inv .1) (omega (arith, start .pre .1 .1)) (c .before .raise .ensures) (quotient-is (c .before .before)),
     )
 
 raise-requires-2 : tie.Need-raise-requires-2 Inv-loop μ-loop
@@ -117,8 +110,8 @@ all-raised c =
     let a = start .args in
     let loop = c .before .before .before .before .loop in
     let left = c .before .before .before .loop-test .left in
-    one-more-raised (quotientOf (a .own) (a .c .now) (a .t .now)) (a .p) (loop .j) (a .best .now) (loop .best) (c .before .raise2 .last .0) (held (c .before .before .before .before .before .slack-at .result)) (loop .inv .1) (omega (arith, start .pre .1 .1)) (c .before .raise2 .ensures)
-    (dividend-is (c .before .before .before .before .before) ∙ quotient-own (a .own) (a .c .now) (a .t .now) (loop .j) (a .p) (omega (arith, start .pre .0 .as-many)))
+    one-more-raised _ _ _ _ _ _ _ (loop .inv .1) (omega (arith, start .pre .1 .1)) (c .before .raise2 .ensures)
+    (dividend-is (c .before .before .before .before .before) ∙ quotient-own _ _ _ _ _ (omega (arith, start .pre .0 .as-many)))
 
 same-length : tie.Need-same-length Inv-loop μ-loop
 same-length c = all-raised c .as-long

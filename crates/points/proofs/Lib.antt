@@ -1,0 +1,9 @@
+-- The laws that the proofs of the point allowances stand on.
+pub mod Lowered
+pub mod SmallLoad
+pub mod Rivals
+pub mod Walked
+pub mod Bounding
+pub mod Held
+pub mod Touched
+pub mod Allowed
