@@ -65,6 +65,7 @@ pub fn point_allowances(c: &[u32], d: &[u32], t: &[u32], order: &[usize; 24]) ->
     requires { ⌜ Shaped (now c) (now d) (now t) × AllWithin (rowsOf (now c) (now d) (now t)) ⌝ }
     requires { ⌜ take (length (now d)) (now order) ≡ rankingBy (now d) ⌝ }
     ensures { λ r. ⌜ ((i : ℕ) → i < length (now (c .entry)) → IsPointAllowance (rowsOf (now (c .entry)) (now (d .entry)) (now (t .entry))) i (getD r i (pos 0))) ⌝ }
+    ensures { λ r. ⌜ length r ≡ 24 ⌝ }
 {
     let mut allowed = [9223372036854775807i64; 24];
     let mut k = 0;
@@ -84,6 +85,7 @@ pub fn as_numbers(allowed: &[i64]) -> [u32; 24]
     requires { ⌜ length (now allowed) ≤ 24 ⌝ }
     requires { ⌜ ((i : ℕ) → i < length (now allowed) → IsSmall (getD (now allowed) i (pos 0))) ⌝ }
     ensures { λ r. ⌜ ((i : ℕ) → i < length (now (allowed .entry)) → pos (getD r i 0) ≡ getD (now (allowed .entry)) i (pos 0)) ⌝ }
+    ensures { λ r. ⌜ length r ≡ 24 ⌝ }
 {
     let mut numbers = [0u32; 24];
     let mut i = 0;

@@ -58,10 +58,6 @@ module _ (cs ds ts : List ℕ) (responses allowances : ℕ) where
         let inside : k < length cs = in-lists cs ds ts (passed .shaped) (subst (IsVerdict (rowsOf cs ds ts) response) late said .in-set) in
         omega (arith, passed .shaped .no-25th)
 
--- the front of an array that both services fill a lent list with
-pub front-length : {cs ds ts : List ℕ} → Shaped cs ds ts → (numbers : List ℕ) → length numbers ≡ 24 → length (take (length cs) numbers) ≡ length cs
-front-length {cs} shaped numbers long = length-take-le (length cs) numbers (omega (arith, long, shaped .no-25th))
-
 -- what is there when the allowances are still to come
 pub record Ready (cs ds ts : List ℕ) (responses allowances : ℕ) (order response : List ℕ) : Type 0 where
   pub passed : Passed cs ds ts responses allowances
@@ -70,9 +66,9 @@ pub record Ready (cs ds ts : List ℕ) (responses allowances : ℕ) (order respo
   pub in-time : (k : ℕ) → k < length (rowsOf cs ds ts) → RespondsInTime (rowsOf cs ds ts) response k
 
 pub begun-ready : (cs ds ts : List ℕ) (responses allowances : ℕ) (order response : List ℕ) {a : Answer}
-  → IsBegun cs ds ts responses allowances order response a
-  → numberOf a ≡ 0
-  → Ready cs ds ts responses allowances order response
+    → IsBegun cs ds ts responses allowances order response a
+    → numberOf a ≡ 0
+    → Ready cs ds ts responses allowances order response
 begun-ready cs ds ts responses allowances order response (stage.rows-out-of-range n) e = absurd (omega arith)
 begun-ready cs ds ts responses allowances order response (stage.row-breaks-limits k s f) e = absurd (omega arith)
 begun-ready cs ds ts responses allowances order response (stage.output-too-short s w o) e = absurd (omega arith)
@@ -80,12 +76,25 @@ begun-ready cs ds ts responses allowances order response (stage.row-misses k s w
 begun-ready cs ds ts responses allowances order response (stage.begun s w p q o l t) e =
     record { passed = record { shaped = s; within = w; responses-fit = p; allowances-fit = q }; ranked = o; long = l; in-time = t }
 
+module _ (cs ds ts : List ℕ) (responses allowances : ℕ) (order response : List ℕ) (ready : Ready cs ds ts responses allowances order response) where
+  -- what either way to the allowances asks
+  pub allowances-may-follow :
+      (Shaped cs ds ts × AllWithin (rowsOf cs ds ts)) × ((take (length ds) order ≡ rankingBy ds) × ((k : ℕ) → k < length cs → RespondsInTime (rowsOf cs ds ts) response k))
+  allowances-may-follow =
+      ((ready .passed .shaped, ready .passed .within), (ready .ranked, λ k h. ready .in-time k (in-rows cs ds ts (ready .passed .shaped) h)))
+
+  -- what the delivery asks
+  pub delivery-may-follow : (allowed : List ℕ) → length allowed ≡ 24
+      → ((length cs ≤ length response) × (length cs ≤ length allowed)) × ((length cs ≤ responses) × (length cs ≤ allowances))
+  delivery-may-follow allowed long =
+      ((omega (arith, ready .long, ready .passed .shaped .no-25th), omega (arith, long, ready .passed .shaped .no-25th)), (ready .passed .responses-fit, ready .passed .allowances-fit))
+
 module _ (Allowance : List Row → ℕ → ℕ → Type 0) (cs ds ts responses allowances : List ℕ) where
   -- a refusal leaves both lists as they were
   pub begun-refused : {a : Answer} (order response : List ℕ)
-    → IsBegun cs ds ts (length responses) (length allowances) order response a
-    → (numberOf a ≡ 0 → ⊥)
-    → Answered Allowance cs ds ts responses allowances a responses allowances
+      → IsBegun cs ds ts (length responses) (length allowances) order response a
+      → (numberOf a ≡ 0 → ⊥)
+      → Answered Allowance cs ds ts responses allowances a responses allowances
   begun-refused order response (stage.rows-out-of-range n) r = lists.rows-out-of-range n
   begun-refused order response (stage.row-breaks-limits k s f) r = lists.row-breaks-limits k s f
   begun-refused order response (stage.output-too-short s w o) r = lists.output-too-short s w o
@@ -94,10 +103,10 @@ module _ (Allowance : List Row → ℕ → ℕ → Type 0) (cs ds ts responses a
 
   -- with an allowance for each row the call is accepted
   pub ready-accepted : (order response allowed : List ℕ)
-    → Ready cs ds ts (length responses) (length allowances) order response
-    → length allowed ≡ 24
-    → ((i : ℕ) → i < length cs → Allowance (rowsOf cs ds ts) i (getD allowed i 0))
-    → Answered Allowance cs ds ts responses allowances Accepted (filled (take (length cs) response) responses) (filled (take (length cs) allowed) allowances)
+      → Ready cs ds ts (length responses) (length allowances) order response
+      → length allowed ≡ 24
+      → ((i : ℕ) → i < length cs → Allowance (rowsOf cs ds ts) i (getD allowed i 0))
+      → Answered Allowance cs ds ts responses allowances Accepted (filled (take (length cs) response) responses) (filled (take (length cs) allowed) allowances)
   ready-accepted order response allowed ready long is-allowance =
       lists.accepted (take (length cs) response) (take (length cs) allowed) (ready .passed .shaped) (ready .passed .within) (ready .passed .responses-fit) (ready .passed .allowances-fit)
       (λ k h. let r = ready .in-time k h in record { response = getD response k 0; is-response = r .is-response; by-deadline = r .by-deadline })
@@ -107,8 +116,8 @@ module _ (Allowance : List Row → ℕ → ℕ → Type 0) (cs ds ts responses a
       -- the first numbers of a long enough list, one for each row
       first : (numbers : List ℕ) → length numbers ≡ 24 → (Right : ℕ → ℕ → Type 0) → ((k : ℕ) → k < length cs → Right k (getD numbers k 0)) → ForEach (rowsOf cs ds ts) Right (take (length cs) numbers)
       first numbers long Right right = record {
-        one-each = front-length (ready .passed .shaped) numbers long ∙ sym (rows-of-length cs ds ts (ready .passed .shaped .as-many-deadlines) (ready .passed .shaped .as-many-periods));
+        one-each = length-take-le (length cs) numbers (omega (arith, long, ready .passed .shaped .no-25th)) ∙ sym (rows-of-length cs ds ts (ready .passed .shaped .as-many-deadlines) (ready .passed .shaped .as-many-periods));
         right = λ k h.
-          let inside : k < length cs = in-lists cs ds ts (ready .passed .shaped) h in
-          subst (Right k) (sym (getD-take (length cs) numbers k 0 inside)) (right k inside)
+            let inside : k < length cs = in-lists cs ds ts (ready .passed .shaped) h in
+            subst (Right k) (sym (getD-take (length cs) numbers k 0 inside)) (right k inside);
       }

@@ -68,7 +68,7 @@ loop-again c =
     )
 
 returns : tie.Need-returns Inv-loop μ-loop
-returns c = λ x h. c .before .loop .inv .2 x (omega arith)
+returns c = (λ x h. c .before .loop .inv .2 x (omega arith), c .before .loop .inv .1)
 
 pub as-numbers-spec : {M : Type 1} → statement M
 as-numbers-spec =

@@ -64,7 +64,7 @@ returns : tie.Need-returns Inv-loop μ-loop
 returns c =
     let start = c .before .before .before .before .before in
     let lists = start .args in
-    all-allowed (lists .c .now) (lists .d .now) (lists .t .now) (start .pre .0 .0) (start .pre .0 .1) (c .before .loop .inv) (c .loop-test .left)
+    (all-allowed (lists .c .now) (lists .d .now) (lists .t .now) (start .pre .0 .0) (start .pre .0 .1) (c .before .loop .inv) (c .loop-test .left), c .before .loop .inv .as-long)
 
 pub point-allowances-spec : {M : Type 1} → statement M
 point-allowances-spec =

@@ -89,11 +89,13 @@ returns c =
     let shaped = pre .0 .0 in
     let j = c .before .before .before .before .before .loop .j in
     let at : getD order j 0 ≡ ranked cs ds ts shaped j = order-ranked cs ds ts shaped order (pre .1) j (omega arith) in
-    let inside : getD order j 0 < length cs = subst (λ (x : ℕ). x < length cs) (sym at) (ranked-in-lists cs ds ts shaped j (omega arith)) in
-    (subst (FirstMiss (rowsOf cs ds ts)) (sym at)
-    (answering-stops cs ds ts shaped (c .before .before .before .before .before .loop .response) j (c .before .before .before .before .before .loop .inv shaped) (omega arith)
-    (subst (λ (k : ℕ). Climbed (load (rowsOf cs ds ts) k) (rowAt (rowsOf cs ds ts) k .D) misses) at
-    (climb-said cs ds ts shaped (load (rowsOf cs ds ts) (getD order j 0)) (getD order j 0) (c .before .before .climb-row .result) misses (ap outcomeOf (c .enum-told .given .1)) (c .before .before .climb-row .ensures)))), c .before .before .before .before .before .loop .inv shaped .long)
+    let inside : getD order j 0 < length cs = subst (λ (x : ℕ). x < length cs) (sym at) (ranked-in-lists cs ds ts shaped j (omega arith)) in (
+      subst (FirstMiss (rowsOf cs ds ts)) (sym at)
+          (answering-stops cs ds ts shaped (c .before .before .before .before .before .loop .response) j (c .before .before .before .before .before .loop .inv shaped) (omega arith)
+          (subst (λ (k : ℕ). Climbed (load (rowsOf cs ds ts) k) (rowAt (rowsOf cs ds ts) k .D) misses) at
+          (climb-said cs ds ts shaped (load (rowsOf cs ds ts) (getD order j 0)) (getD order j 0) (c .before .before .climb-row .result) misses (ap outcomeOf (c .enum-told .given .1)) (c .before .before .climb-row .ensures)))),
+      c .before .before .before .before .before .loop .inv shaped .long,
+    )
 
 add-j : tie.Need-add-j Inv-loop μ-loop
 add-j c = omega arith

@@ -48,14 +48,14 @@ cast-t21 : tie.Need-cast-t21
 cast-t21 c =
     let args = c .before .before .before .before .before .before .before .before .before .before .before .before .before .args in
     let late = late-in-set (args .c .now) (args .d .now) (args .t .now) (args .responses) (args .allowances) (c .before .before .before .before .before .before .ranking .result) (c .before .before .before .before .responses-of .result .response)
-      (passed (c .before .before .before .before .before .before .before)) (c .before .before .before .before .responses-of .ensures .0) (c .before .verdict .given .0 .0) (c .before .verdict .given .1) in
+    (passed (c .before .before .before .before .before .before .before)) (c .before .before .before .before .responses-of .ensures .0) (c .before .verdict .given .0 .0) (c .before .verdict .given .1) in
     omega (arith, late)
 
 add-t22 : tie.Need-add-t22
 add-t22 c =
     let args = c .before .before .before .before .before .before .before .before .before .before .before .before .before .args in
     let late = late-in-set (args .c .now) (args .d .now) (args .t .now) (args .responses) (args .allowances) (c .before .before .before .before .before .before .ranking .result) (c .before .before .before .before .responses-of .result .response)
-      (passed (c .before .before .before .before .before .before .before)) (c .before .before .before .before .responses-of .ensures .0) (c .before .verdict .given .0 .0) (c .before .verdict .given .1) in
+    (passed (c .before .before .before .before .before .before .before)) (c .before .before .before .before .responses-of .ensures .0) (c .before .verdict .given .0 .0) (c .before .verdict .given .1) in
     omega (arith, late)
 
 returns-2 : tie.Need-returns-2

@@ -1,0 +1,66 @@
+-- `sets::point_numbers` meets its contract.
+use mathlib.Core.Path.{_≡_, sym, _∙_, subst}
+use Prim.Native.Nat.{_<_}
+use native.Mathlib.Omega.{arith}
+use borrow.Author.Needs.{needs}
+use lib.IntN.{pos}
+use lib.ListN.{length, take}
+use lib.Seq.{getD-take, length-take-le}
+use Rattle.theory.specs.Points.{IsPointAllowance}
+use Rattle.theory.specs.Lists.{rowsOf}
+use Rattle.points.specs.Bounds.{IsSmall}
+use Rattle.sets.proofs.PointNumbers.{point-numbers-small}
+use Rattle.sets.proofs.point_numbers.Statement.{statement}
+use Rattle.sets.proofs.point_numbers.Tie as tie
+use Rattle.sets.proofs.point_numbers.Reads as reads
+use Rattle.sets.proofs.point_numbers.Lts as lts
+use Rattle.points.proofs.as_numbers.Reads as as-numbers-reads
+use Rattle.points.proofs.point_allowances.Reads as point-allowances-reads
+
+point-allowances-requires : tie.Need-point-allowances-requires
+point-allowances-requires c κs = search needs
+
+array-share-prefix-signed : tie.Need-array-share-prefix-signed
+array-share-prefix-signed c = search needs
+
+-- the allowances that are read are as many as the rows
+front-length :
+    (c : lts.After-point-allowances (point-allowances-reads.Asked, point-allowances-reads.Learnt, as-numbers-reads.Asked, as-numbers-reads.Learnt) reads.Pre reads.Post)
+    → let args = c .before .before .before .before .args in length (take (length (args .c .now)) (c .point-allowances .result)) ≡ length (args .c .now)
+front-length c =
+    length-take-le (length (c .before .before .before .before .args .c .now)) (c .point-allowances .result) (omega (arith, c .point-allowances .ensures .1, c .before .before .before .before .pre .0 .0 .no-25th))
+
+slice-aggregate-as-numbers : tie.Need-slice-aggregate-as-numbers
+slice-aggregate-as-numbers c = sym (front-length (c .before))
+
+as-numbers-requires : tie.Need-as-numbers-requires
+as-numbers-requires c κs =
+    let start = c .before .before .before .before .before in
+    let signed = c .before .point-allowances .result in (
+      omega (arith, front-length (c .before), start .pre .0 .0 .no-25th),
+      λ i h.
+          let inside : i < length (start .args .c .now) = omega (arith, h, front-length (c .before)) in
+          subst IsSmall (sym (getD-take (length (start .args .c .now)) signed i (pos 0) inside))
+          (point-numbers-small (start .args .c .now) (start .args .d .now) (start .args .t .now) (start .args .response .now) (start .pre .0 .0) (start .pre .0 .1) (start .pre .1 .1) i inside _ (c .before .point-allowances .ensures .0 i inside)),
+    )
+
+returns : tie.Need-returns
+returns c =
+    let start = c .before .before .before .before .before .before in
+    let signed = c .before .before .point-allowances .result in (
+      λ i h.
+          subst (IsPointAllowance (rowsOf (start .args .c .now) (start .args .d .now) (start .args .t .now)) i)
+          (sym (getD-take (length (start .args .c .now)) signed i (pos 0) h) ∙ sym (c .as-numbers .ensures .0 i (omega (arith, h, front-length (c .before .before)))))
+          (c .before .before .point-allowances .ensures .0 i h),
+      c .as-numbers .ensures .1,
+    )
+
+pub point-numbers-spec : {M : Type 1} → statement M
+point-numbers-spec =
+    tie.close
+    (tie.spec
+    point-allowances-requires
+    array-share-prefix-signed
+    slice-aggregate-as-numbers
+    as-numbers-requires
+    returns)

@@ -1,0 +1,77 @@
+-- `sets::point_service` meets its contract.
+use mathlib.Core.Path.{sym, _∙_}
+use Prim.Native.Nat.{ℕ}
+use mathlib.Core.List.{List}
+use borrow.Author.Needs.{needs}
+use lib.IntN.{pos}
+use lib.ListN.{length}
+use Rattle.theory.specs.Row.{Row}
+use Rattle.theory.specs.Points.{IsPointAllowance}
+use Rattle.sets.proofs.Stages.{Ready, begun-ready, allowances-may-follow, delivery-may-follow, begun-refused, ready-accepted}
+use Rattle.sets.proofs.point_service.Statement.{statement}
+use Rattle.sets.proofs.point_service.Tie as tie
+use Rattle.sets.proofs.point_service.Reads as reads
+use Rattle.sets.proofs.point_service.Lts as lts
+use Rattle.refusals.proofs.number_of.Reads as number-of-reads
+use Rattle.sets.proofs.begin.Reads as begin-reads
+use Rattle.sets.proofs.deliver.Reads as deliver-reads
+use Rattle.sets.proofs.point_numbers.Reads as point-numbers-reads
+
+begin-requires : tie.Need-begin-requires
+begin-requires c κs = search needs
+
+number-of-requires : tie.Need-number-of-requires
+number-of-requires c κs = search needs
+
+returns : tie.Need-returns
+returns c =
+    let args = c .before .before .before .before .before .before .before .before .args in
+    begun-refused (λ (rows : List Row) (i a : ℕ). IsPointAllowance rows i (pos a)) (args .c .now) (args .d .now) (args .t .now) (args .responses .now) (args .allowances .now) _ _ (c .before .before .begin .ensures)
+    (λ none. absurd (c .if1 .taken (c .before .number-of .ensures ∙ none)))
+
+-- past the test that the answer so far is 0
+ready :
+    (c : lts.Else1 (begin-reads.Asked, begin-reads.Learnt, number-of-reads.Asked, number-of-reads.Learnt, point-numbers-reads.Asked, point-numbers-reads.Learnt, deliver-reads.Asked, deliver-reads.Learnt) reads.Pre reads.Post)
+    → let args = c .before .before .before .before .before .before .before .before .args in Ready (args .c .now) (args .d .now) (args .t .now) (length (args .responses .now)) (length (args .allowances .now)) (c .before .before .begin .result .order) (c .before .before .begin .result .response)
+ready c =
+    let args = c .before .before .before .before .before .before .before .before .args in
+    begun-ready (args .c .now) (args .d .now) (args .t .now) (length (args .responses .now)) (length (args .allowances .now)) _ _ (c .before .before .begin .ensures) (sym (c .before .number-of .ensures) ∙ c .if1 .left)
+
+point-numbers-requires : tie.Need-point-numbers-requires
+point-numbers-requires c κs = allowances-may-follow _ _ _ _ _ _ _ (ready (c .before .before .before .before))
+
+slice-aggregate-deliver : tie.Need-slice-aggregate-deliver
+slice-aggregate-deliver c = search needs
+
+slice-aggregate-deliver-2 : tie.Need-slice-aggregate-deliver-2
+slice-aggregate-deliver-2 c = search needs
+
+deliver-requires : tie.Need-deliver-requires
+deliver-requires c κs = delivery-may-follow _ _ _ _ _ _ _ (ready (c .before .before .before .before .before .before .before .before .before)) (c .before .before .before .before .point-numbers .result) (c .before .before .before .before .point-numbers .ensures .1)
+
+same-length : tie.Need-same-length
+same-length c = search needs
+
+same-length-2 : tie.Need-same-length-2
+same-length-2 c = search needs
+
+returns-2 : tie.Need-returns-2
+returns-2 c =
+    let args = c .before .before .before .before .before .before .before .before .before .before .before .before .before .before .before .before .before .before .before .before .before .before .args in
+    rw (c .before .before .before .before .deliver .ensures .0, c .before .before .before .before .deliver .ensures .1)
+    (ready-accepted (λ (rows : List Row) (i a : ℕ). IsPointAllowance rows i (pos a)) (args .c .now) (args .d .now) (args .t .now) (args .responses .now) (args .allowances .now) _ _ _ (ready (c .before .before .before .before .before .before .before .before .before .before .before .before .before .before)) (c .before .before .before .before .before .before .before .before .before .point-numbers .ensures .1) (c .before .before .before .before .before .before .before .before .before .point-numbers .ensures .0))
+
+pub point-service-spec : {M : Type 1} → statement M
+point-service-spec =
+    tie.close
+    (tie.spec
+    begin-requires
+    number-of-requires
+    returns
+    point-numbers-requires
+    slice-aggregate-deliver
+    slice-aggregate-deliver-2
+    deliver-requires
+    same-length
+    same-length-2
+    returns-2)
