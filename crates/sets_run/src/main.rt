@@ -33,7 +33,17 @@ fn say_answer(service: &[u8], answer: Answer, responses: &[u32], allowances: &[u
     say(b"\n");
 }
 
-// Both services on three lists, with answer lists of given lengths, all 7 before the call.
+fn run_set(c: &[u32], d: &[u32], t: &[u32], responses: &mut [u32], allowances: &mut [u32]) {
+    let answer = sets::set_service(c, d, t, responses, allowances);
+    say_answer(b"  set   ", answer, responses, allowances);
+}
+
+fn run_points(c: &[u32], d: &[u32], t: &[u32], responses: &mut [u32], allowances: &mut [u32]) {
+    let answer = sets::point_service(c, d, t, responses, allowances);
+    say_answer(b"  point ", answer, responses, allowances);
+}
+
+// Both services on three lists, with answer lists of given lengths, at most 30, all 7 before the call.
 fn run(name: &[u8], c: &[u32], d: &[u32], t: &[u32], responses: usize, allowances: usize) {
     if 30 < responses {
         return;
@@ -45,28 +55,10 @@ fn run(name: &[u8], c: &[u32], d: &[u32], t: &[u32], responses: usize, allowance
     say(b"\n");
     let mut first = [7u32; 30];
     let mut second = [7u32; 30];
-    let by_trial = sets::set_service(c, d, t, &mut first[..responses], &mut second[..allowances]);
-    say_answer(
-        b"  set   ",
-        by_trial,
-        &first[..responses],
-        &second[..allowances],
-    );
+    run_set(c, d, t, &mut first[..responses], &mut second[..allowances]);
     let mut third = [7u32; 30];
     let mut fourth = [7u32; 30];
-    let by_points = sets::point_service(
-        c,
-        d,
-        t,
-        &mut third[..responses],
-        &mut fourth[..allowances],
-    );
-    say_answer(
-        b"  point ",
-        by_points,
-        &third[..responses],
-        &fourth[..allowances],
-    );
+    run_points(c, d, t, &mut third[..responses], &mut fourth[..allowances]);
 }
 
 fn sheets() {
