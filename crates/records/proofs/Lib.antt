@@ -6,3 +6,4 @@ pub mod ReadingBack
 pub mod Lengths
 pub mod Report
 pub mod ListBytes
+pub mod BytesAnswered
