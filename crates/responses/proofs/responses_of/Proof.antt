@@ -5,7 +5,7 @@ use native.Mathlib.Omega.{arith}
 use borrow.Author.Needs.{needs}
 use lib.ListN.{length, getD, set}
 use Rattle.theory.specs.Row.{rowAt}
-use Rattle.theory.specs.Response.{load, responds, misses, FirstMiss}
+use Rattle.theory.specs.Response.{Outcome, load, responds, misses, FirstMiss}
 use Rattle.theory.specs.Climb.{Climbed}
 use Rattle.theory.specs.Lists.{rowsOf, Shaped}
 use Rattle.theory.proofs.Response.{start-at-one}
@@ -14,6 +14,9 @@ use Rattle.climbs.proofs.InLists.{in-rows, climb-said, ranked, ranked-in-lists,
 use Rattle.responses.proofs.Answering.{Answering, answering-begins, answering-more, answering-stops, answering-ends}
 use Rattle.responses.proofs.responses_of.Statement.{statement}
 use Rattle.responses.proofs.responses_of.Tie as tie
+use Rattle.responses.proofs.responses_of.Reads as reads
+use Rattle.responses.proofs.responses_of.Lts as lts
+use Rattle.climbs.proofs.climb_row.Reads as climb-row-reads
 
 abbrev Inv-loop : tie.InvT-loop
 Inv-loop c d t order response₀ j₀ response j = (shaped : Shaped c d t) → Answering c d t shaped response j
@@ -30,50 +33,58 @@ mul-k c = omega (arith, c .before .before .before .before .before .pre .0 .0 .no
 element-copy-out-k : tie.Need-element-copy-out-k Inv-loop μ-loop
 element-copy-out-k c = omega (arith, c .before .before .before .before .before .pre .0 .0 .no-25th)
 
+-- the row that a turn takes, by its rank
+row-ranked :
+    (c : lts.After-k (climb-row-reads.Asked, climb-row-reads.Learnt) reads.Pre reads.Post Inv-loop μ-loop)
+    → let start = c .before .before .before .before .before .before in let j = c .before .before .loop .j in getD (start .args .order .now) j 0 ≡ ranked (start .args .c .now) (start .args .d .now) (start .args .t .now) (start .pre .0 .0) j
+row-ranked c =
+    let start = c .before .before .before .before .before .before in
+    order-ranked (start .args .c .now) (start .args .d .now) (start .args .t .now) (start .pre .0 .0) (start .args .order .now) (start .pre .1) (c .before .before .loop .j) (omega arith)
+
+-- it is in the lists
+row-inside :
+    (c : lts.After-k (climb-row-reads.Asked, climb-row-reads.Learnt) reads.Pre reads.Post Inv-loop μ-loop)
+    → let start = c .before .before .before .before .before .before in getD (start .args .order .now) (c .before .before .loop .j) 0 < length (start .args .c .now)
+row-inside c =
+    let start = c .before .before .before .before .before .before in
+    subst (λ (x : ℕ). x < length (start .args .c .now)) (sym (row-ranked c))
+    (ranked-in-lists (start .args .c .now) (start .args .d .now) (start .args .t .now) (start .pre .0 .0) (c .before .before .loop .j) (omega arith))
+
+-- what its climb said, by its rank
+climb-of-turn :
+    (c : lts.After-climb-row (climb-row-reads.Asked, climb-row-reads.Learnt) reads.Pre reads.Post Inv-loop μ-loop)
+    → (outcome : Outcome)
+    → outcomeOf (c .climb-row .result) ≡ outcome
+    → let start = c .before .before .before .before .before .before .before in
+    let rows = rowsOf (start .args .c .now) (start .args .d .now) (start .args .t .now) in
+    let k = ranked (start .args .c .now) (start .args .d .now) (start .args .t .now) (start .pre .0 .0) (c .before .before .before .loop .j) in
+    Climbed (load rows k) (rowAt rows k .D) outcome
+climb-of-turn c outcome said =
+    let start = c .before .before .before .before .before .before .before in
+    let cs = start .args .c .now in
+    let ds = start .args .d .now in
+    let ts = start .args .t .now in
+    let row = getD (start .args .order .now) (c .before .before .before .loop .j) 0 in
+    subst (λ (k : ℕ). Climbed (load (rowsOf cs ds ts) k) (rowAt (rowsOf cs ds ts) k .D) outcome) (row-ranked (c .before))
+    (climb-said cs ds ts (start .pre .0 .0) (load (rowsOf cs ds ts) row) row (c .climb-row .result) outcome said (c .climb-row .ensures))
+
 climb-row-requires : tie.Need-climb-row-requires Inv-loop μ-loop
 climb-row-requires c κs =
     let start = c .before .before .before .before .before .before in
     let pre = start .pre in
-    let cs = start .args .c .now in
-    let ds = start .args .d .now in
-    let ts = start .args .t .now in
-    let order = start .args .order .now in
-    let shaped = pre .0 .0 in
-    let j = c .before .before .loop .j in
-    let at : getD order j 0 ≡ ranked cs ds ts shaped j = order-ranked cs ds ts shaped order (pre .1) j (omega arith) in
-    let inside : getD order j 0 < length cs = subst (λ (x : ℕ). x < length cs) (sym at) (ranked-in-lists cs ds ts shaped j (omega arith)) in
-    (pre .0, (pre .1, (inside, start-at-one (rowsOf cs ds ts) (getD order j 0) (pre .0 .1 (getD order j 0) (in-rows cs ds ts shaped inside) .runs))))
+    let rows = rowsOf (start .args .c .now) (start .args .d .now) (start .args .t .now) in
+    let row = getD (start .args .order .now) (c .before .before .loop .j) 0 in
+    let in-set = in-rows (start .args .c .now) (start .args .d .now) (start .args .t .now) (pre .0 .0) (row-inside c) in
+    (pre .0, (pre .1, (row-inside c, start-at-one rows row (pre .0 .1 row in-set .runs))))
 
 enum-known-r : tie.Need-enum-known-r Inv-loop μ-loop
 enum-known-r c = search needs
 
 mul-response : tie.Need-mul-response Inv-loop μ-loop
-mul-response c =
-    let start = c .before .before .before .before .before .before .before .before .before .before in
-    let pre = start .pre in
-    let cs = start .args .c .now in
-    let ds = start .args .d .now in
-    let ts = start .args .t .now in
-    let order = start .args .order .now in
-    let shaped = pre .0 .0 in
-    let j = c .before .before .before .before .before .before .loop .j in
-    let at : getD order j 0 ≡ ranked cs ds ts shaped j = order-ranked cs ds ts shaped order (pre .1) j (omega arith) in
-    let inside : getD order j 0 < length cs = subst (λ (x : ℕ). x < length cs) (sym at) (ranked-in-lists cs ds ts shaped j (omega arith)) in
-    omega (arith, inside, shaped .no-25th)
+mul-response c = omega (arith, row-inside (c .before .before .before .before), c .before .before .before .before .before .before .before .before .before .before .pre .0 .0 .no-25th)
 
 array-write-response : tie.Need-array-write-response Inv-loop μ-loop
-array-write-response c =
-    let start = c .before .before .before .before .before .before .before .before .before .before in
-    let pre = start .pre in
-    let cs = start .args .c .now in
-    let ds = start .args .d .now in
-    let ts = start .args .t .now in
-    let order = start .args .order .now in
-    let shaped = pre .0 .0 in
-    let j = c .before .before .before .before .before .before .loop .j in
-    let at : getD order j 0 ≡ ranked cs ds ts shaped j = order-ranked cs ds ts shaped order (pre .1) j (omega arith) in
-    let inside : getD order j 0 < length cs = subst (λ (x : ℕ). x < length cs) (sym at) (ranked-in-lists cs ds ts shaped j (omega arith)) in
-    omega (arith, inside, shaped .no-25th)
+array-write-response c = omega (arith, row-inside (c .before .before .before .before), c .before .before .before .before .before .before .before .before .before .before .pre .0 .0 .no-25th)
 
 enum-told : tie.Need-enum-told Inv-loop μ-loop
 enum-told c = search needs
@@ -81,20 +92,13 @@ enum-told c = search needs
 returns : tie.Need-returns Inv-loop μ-loop
 returns c =
     let start = c .before .before .before .before .before .before .before .before .before in
-    let pre = start .pre in
-    let cs = start .args .c .now in
-    let ds = start .args .d .now in
-    let ts = start .args .t .now in
-    let order = start .args .order .now in
-    let shaped = pre .0 .0 in
-    let j = c .before .before .before .before .before .loop .j in
-    let at : getD order j 0 ≡ ranked cs ds ts shaped j = order-ranked cs ds ts shaped order (pre .1) j (omega arith) in
-    let inside : getD order j 0 < length cs = subst (λ (x : ℕ). x < length cs) (sym at) (ranked-in-lists cs ds ts shaped j (omega arith)) in (
-      subst (FirstMiss (rowsOf cs ds ts)) (sym at)
-          (answering-stops cs ds ts shaped (c .before .before .before .before .before .loop .response) j (c .before .before .before .before .before .loop .inv shaped) (omega arith)
-          (subst (λ (k : ℕ). Climbed (load (rowsOf cs ds ts) k) (rowAt (rowsOf cs ds ts) k .D) misses) at
-          (climb-said cs ds ts shaped (load (rowsOf cs ds ts) (getD order j 0)) (getD order j 0) (c .before .before .climb-row .result) misses (ap outcomeOf (c .enum-told .given .1)) (c .before .before .climb-row .ensures)))),
-      c .before .before .before .before .before .loop .inv shaped .long,
+    let turn = c .before .before .before .before .before .loop in
+    let so-far = turn .inv (start .pre .0 .0) in
+    (
+      subst (FirstMiss (rowsOf (start .args .c .now) (start .args .d .now) (start .args .t .now))) (sym (row-ranked (c .before .before .before)))
+      (answering-stops (start .args .c .now) (start .args .d .now) (start .args .t .now) (start .pre .0 .0) (turn .response) (turn .j) so-far (omega arith)
+      (climb-of-turn (c .before .before) misses (ap outcomeOf (c .enum-told .given .1)))),
+      so-far .long,
     )
 
 add-j : tie.Need-add-j Inv-loop μ-loop
@@ -106,19 +110,11 @@ loop-less c = omega arith
 loop-again : tie.Need-loop-again Inv-loop μ-loop
 loop-again c = λ shaped.
     let start = c .before .before .before .before .before .before .before .before .before .before in
-    let pre = start .pre in
-    let cs = start .args .c .now in
-    let ds = start .args .d .now in
-    let ts = start .args .t .now in
-    let order = start .args .order .now in
-    let j = c .before .before .before .before .before .before .loop .j in
-    let at : getD order j 0 ≡ ranked cs ds ts shaped j = order-ranked cs ds ts shaped order (pre .1) j (omega arith) in
-    let inside : getD order j 0 < length cs = subst (λ (x : ℕ). x < length cs) (sym at) (ranked-in-lists cs ds ts shaped j (omega arith)) in
+    let turn = c .before .before .before .before .before .before .loop in
     let r = c .before .r .given .0 .0 in
-    subst (λ (k : ℕ). Answering cs ds ts shaped (set (c .before .before .before .before .before .before .loop .response) k r) (j + 1)) (sym at)
-    (answering-more cs ds ts shaped (c .before .before .before .before .before .before .loop .response) j (c .before .before .before .before .before .before .loop .inv shaped) (omega arith) r
-    (subst (λ (k : ℕ). Climbed (load (rowsOf cs ds ts) k) (rowAt (rowsOf cs ds ts) k .D) (responds r)) at
-    (climb-said cs ds ts shaped (load (rowsOf cs ds ts) (getD order j 0)) (getD order j 0) (c .before .before .before .climb-row .result) (responds r) (ap outcomeOf (c .before .r .given .1)) (c .before .before .before .climb-row .ensures))))
+    subst (λ (k : ℕ). Answering (start .args .c .now) (start .args .d .now) (start .args .t .now) shaped (set (turn .response) k r) (turn .j + 1)) (sym (row-ranked (c .before .before .before .before)))
+    (answering-more (start .args .c .now) (start .args .d .now) (start .args .t .now) shaped (turn .response) (turn .j) (turn .inv shaped) (omega arith) r
+    (climb-of-turn (c .before .before .before) (responds r) (ap outcomeOf (c .before .r .given .1))))
 
 returns-2 : tie.Need-returns-2 Inv-loop μ-loop
 returns-2 c =
