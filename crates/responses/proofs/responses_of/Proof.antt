@@ -93,11 +93,10 @@ returns : tie.Need-returns Inv-loop μ-loop
 returns c =
     let start = c .before .before .before .before .before .before .before .before .before in
     let turn = c .before .before .before .before .before .loop in
-    let so-far = turn .inv (start .pre .0 .0) in
-    (
+    let so-far = turn .inv (start .pre .0 .0) in (
       subst (FirstMiss (rowsOf (start .args .c .now) (start .args .d .now) (start .args .t .now))) (sym (row-ranked (c .before .before .before)))
-      (answering-stops (start .args .c .now) (start .args .d .now) (start .args .t .now) (start .pre .0 .0) (turn .response) (turn .j) so-far (omega arith)
-      (climb-of-turn (c .before .before) misses (ap outcomeOf (c .enum-told .given .1)))),
+          (answering-stops (start .args .c .now) (start .args .d .now) (start .args .t .now) (start .pre .0 .0) (turn .response) (turn .j) so-far (omega arith)
+          (climb-of-turn (c .before .before) misses (ap outcomeOf (c .enum-told .given .1)))),
       so-far .long,
     )
 
