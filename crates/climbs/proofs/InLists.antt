@@ -62,3 +62,6 @@ module _ (cs ds ts : List ℕ) (shaped : Shaped cs ds ts) where
   -- an order that begins with the places by rank has them at its places
   pub order-ranked : (order : List ℕ) → take (length ds) order ≡ rankingBy ds → (j : ℕ) → j < length cs → getD order j 0 ≡ ranked j
   order-ranked order e j h = sym (getD-take (length ds) order j 0 (omega (arith, shaped .as-many-deadlines))) ∙ ap (λ (xs : List ℕ). getD xs j 0) e
+
+  pub order-in-lists : (order : List ℕ) → take (length ds) order ≡ rankingBy ds → (j : ℕ) → j < length cs → getD order j 0 < length cs
+  order-in-lists order e j h = subst (λ (x : ℕ). x < length cs) (sym (order-ranked order e j h)) (ranked-in-lists j h)

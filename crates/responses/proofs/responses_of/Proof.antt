@@ -10,7 +10,7 @@ use Rattle.theory.specs.Climb.{Climbed}
 use Rattle.theory.specs.Lists.{rowsOf, Shaped}
 use Rattle.theory.proofs.Response.{start-at-one}
 use Rattle.climbs.specs.Climb.{outcomeOf}
-use Rattle.climbs.proofs.InLists.{in-rows, climb-said, ranked, ranked-in-lists, order-ranked}
+use Rattle.climbs.proofs.InLists.{in-rows, climb-said, ranked, order-ranked, order-in-lists}
 use Rattle.responses.proofs.Answering.{Answering, answering-begins, answering-more, answering-stops, answering-ends}
 use Rattle.responses.proofs.responses_of.Statement.{statement}
 use Rattle.responses.proofs.responses_of.Tie as tie
@@ -47,8 +47,7 @@ row-inside :
     → let start = c .before .before .before .before .before .before in getD (start .args .order .now) (c .before .before .loop .j) 0 < length (start .args .c .now)
 row-inside c =
     let start = c .before .before .before .before .before .before in
-    subst (λ (x : ℕ). x < length (start .args .c .now)) (sym (row-ranked c))
-    (ranked-in-lists (start .args .c .now) (start .args .d .now) (start .args .t .now) (start .pre .0 .0) (c .before .before .loop .j) (omega arith))
+    order-in-lists (start .args .c .now) (start .args .d .now) (start .args .t .now) (start .pre .0 .0) (start .args .order .now) (start .pre .1) (c .before .before .loop .j) (omega arith)
 
 -- what its climb said, by its rank
 climb-of-turn :

@@ -1,12 +1,12 @@
 -- `trials::allowance_of` meets its contract. The loop's invariant: every row from place j by rank on meets with what is left, and no larger raise leaves all rows
 -- meeting.
 use mathlib.Core.Path.{_≡_, sym, ap, _∙_, subst}
-use Prim.Native.Nat.{ℕ, _-_, _<_}
+use Prim.Native.Nat.{ℕ, _-_, _≤_, _<_}
 use native.Mathlib.Omega.{arith}
 use Rattle.theory.specs.Lists.{rowsOf, Shaped}
 use lib.ListN.{length, getD}
 use Rattle.trials.specs.Trial.{touchesBy, LargestRaise}
-use Rattle.climbs.proofs.InLists.{in-lists, deadline-of, ranked, ranked-in-lists, order-ranked}
+use Rattle.climbs.proofs.InLists.{in-lists, deadline-of, ranked, order-ranked, order-in-lists}
 use Rattle.trials.proofs.Search.{Searching, searching-begins, searching-lowers, searching-passes, searching-ends}
 use Rattle.trials.proofs.allowance_of.Statement.{statement}
 use Rattle.trials.proofs.allowance_of.Tie as tie
@@ -36,14 +36,8 @@ element-copy-out-allowed c = omega (arith, c .before .before .before .before .pr
 sub-allowed : tie.Need-sub-allowed Inv-loop μ-loop
 sub-allowed c =
     let start = c .before .before .before .before .before in
-    let pre = start .pre in
-    let cs = start .args .c .now in
-    let ds = start .args .d .now in
-    let ts = start .args .t .now in
-    let order = start .args .order .now in
     let i = start .args .i in
-    let shaped = pre .0 .0 in
-    omega (arith, pre .1 .1 .0 i (pre .1 .1 .1) .by-deadline, deadline-of cs ds ts shaped i)
+    omega (arith, start .pre .1 .1 .0 i (start .pre .1 .1 .1) .by-deadline, deadline-of (start .args .c .now) (start .args .d .now) (start .args .t .now) (start .pre .0 .0) i)
 
 loop-holds : tie.Need-loop-holds Inv-loop μ-loop
 loop-holds c = λ shaped.
@@ -65,75 +59,43 @@ mul-k c = omega (arith, c .before .before .before .before .before .before .befor
 element-copy-out-k : tie.Need-element-copy-out-k Inv-loop μ-loop
 element-copy-out-k c = omega (arith, c .before .before .before .before .before .before .before .pre .0 .0 .no-25th, c .before .loop .inv (c .before .before .before .before .before .before .before .pre .0 .0) .places)
 
+-- the row that a turn takes, by its rank
+row-ranked :
+    (c : lts.After-k (touches-reads.Asked, touches-reads.Learnt, largest-raise-reads.Asked, largest-raise-reads.Learnt) reads.Pre reads.Post Inv-loop μ-loop)
+    → let start = c .before .before .before .before .before .before .before .before in let j = c .before .before .loop .j - 1 in getD (start .args .order .now) j 0 ≡ ranked (start .args .c .now) (start .args .d .now) (start .args .t .now) (start .pre .0 .0) j
+row-ranked c =
+    let start = c .before .before .before .before .before .before .before .before in
+    order-ranked (start .args .c .now) (start .args .d .now) (start .args .t .now) (start .pre .0 .0) (start .args .order .now) (start .pre .1 .0) (c .before .before .loop .j - 1)
+    (omega (arith, c .before .before .loop .inv (start .pre .0 .0) .places))
+
+-- it is in the lists
+row-inside : (c : lts.After-k (touches-reads.Asked, touches-reads.Learnt, largest-raise-reads.Asked, largest-raise-reads.Learnt) reads.Pre reads.Post Inv-loop μ-loop) → let start = c .before .before .before .before .before .before .before .before in getD (start .args .order .now) (c .before .before .loop .j - 1) 0 < length (start .args .c .now)
+row-inside c =
+    let start = c .before .before .before .before .before .before .before .before in
+    order-in-lists (start .args .c .now) (start .args .d .now) (start .args .t .now) (start .pre .0 .0) (start .args .order .now) (start .pre .1 .0) (c .before .before .loop .j - 1)
+    (omega (arith, c .before .before .loop .inv (start .pre .0 .0) .places))
+
 touches-requires : tie.Need-touches-requires Inv-loop μ-loop
 touches-requires c κs =
-    let start = c .before .before .before .before .before .before .before .before in
-    let pre = start .pre in
-    let cs = start .args .c .now in
-    let ds = start .args .d .now in
-    let ts = start .args .t .now in
-    let order = start .args .order .now in
-    let i = start .args .i in
+    let pre = c .before .before .before .before .before .before .before .before .pre in
     let shaped = pre .0 .0 in
-    let j = c .before .before .loop .j in
-    let s = c .before .before .loop .inv shaped in
-    let at : getD order (j - 1) 0 ≡ ranked cs ds ts shaped (j - 1) = order-ranked cs ds ts shaped order (pre .1 .0) (j - 1) (omega (arith, s .places)) in
-    let at-inside : getD order (j - 1) 0 < length cs = subst (λ (x : ℕ). x < length cs) (sym at) (ranked-in-lists cs ds ts shaped (j - 1) (omega (arith, s .places))) in
-    (omega (arith, pre .1 .1 .1, shaped .as-many-deadlines), omega (arith, shaped .as-many-deadlines), omega (arith, shaped .as-many-deadlines, shaped .no-25th))
+    (omega (arith, pre .1 .1 .1, shaped .as-many-deadlines), omega (arith, row-inside c, shaped .as-many-deadlines), omega (arith, shaped .as-many-deadlines, shaped .no-25th))
 
 mul-largest-raise : tie.Need-mul-largest-raise Inv-loop μ-loop
-mul-largest-raise c =
-    let start = c .before .before .before .before .before .before .before .before .before .before in
-    let pre = start .pre in
-    let cs = start .args .c .now in
-    let ds = start .args .d .now in
-    let ts = start .args .t .now in
-    let order = start .args .order .now in
-    let i = start .args .i in
-    let shaped = pre .0 .0 in
-    let j = c .before .before .before .before .loop .j in
-    let s = c .before .before .before .before .loop .inv shaped in
-    let at : getD order (j - 1) 0 ≡ ranked cs ds ts shaped (j - 1) = order-ranked cs ds ts shaped order (pre .1 .0) (j - 1) (omega (arith, s .places)) in
-    let at-inside : getD order (j - 1) 0 < length cs = subst (λ (x : ℕ). x < length cs) (sym at) (ranked-in-lists cs ds ts shaped (j - 1) (omega (arith, s .places))) in
-    omega (arith, at-inside, shaped .no-25th)
+mul-largest-raise c = omega (arith, row-inside (c .before .before), c .before .before .before .before .before .before .before .before .before .before .pre .0 .0 .no-25th)
 
 element-copy-out-largest-raise : tie.Need-element-copy-out-largest-raise Inv-loop μ-loop
-element-copy-out-largest-raise c =
-    let start = c .before .before .before .before .before .before .before .before .before .before in
-    let pre = start .pre in
-    let cs = start .args .c .now in
-    let ds = start .args .d .now in
-    let ts = start .args .t .now in
-    let order = start .args .order .now in
-    let i = start .args .i in
-    let shaped = pre .0 .0 in
-    let j = c .before .before .before .before .loop .j in
-    let s = c .before .before .before .before .loop .inv shaped in
-    let at : getD order (j - 1) 0 ≡ ranked cs ds ts shaped (j - 1) = order-ranked cs ds ts shaped order (pre .1 .0) (j - 1) (omega (arith, s .places)) in
-    let at-inside : getD order (j - 1) 0 < length cs = subst (λ (x : ℕ). x < length cs) (sym at) (ranked-in-lists cs ds ts shaped (j - 1) (omega (arith, s .places))) in
-    omega (arith, at-inside, shaped .no-25th)
+element-copy-out-largest-raise c = omega (arith, row-inside (c .before .before), c .before .before .before .before .before .before .before .before .before .before .pre .0 .0 .no-25th)
 
 largest-raise-requires : tie.Need-largest-raise-requires Inv-loop μ-loop
 largest-raise-requires c κs =
     let start = c .before .before .before .before .before .before .before .before .before .before .before in
     let pre = start .pre in
-    let cs = start .args .c .now in
-    let ds = start .args .d .now in
-    let ts = start .args .t .now in
-    let order = start .args .order .now in
-    let i = start .args .i in
-    let shaped = pre .0 .0 in
-    let j = c .before .before .before .before .before .loop .j in
-    let s = c .before .before .before .before .before .loop .inv shaped in
-    let at : getD order (j - 1) 0 ≡ ranked cs ds ts shaped (j - 1) = order-ranked cs ds ts shaped order (pre .1 .0) (j - 1) (omega (arith, s .places)) in
-    let at-inside : getD order (j - 1) 0 < length cs = subst (λ (x : ℕ). x < length cs) (sym at) (ranked-in-lists cs ds ts shaped (j - 1) (omega (arith, s .places))) in
-    let responds = pre .1 .1 .0 (getD order (j - 1) 0) at-inside in (
-      pre .0,
-      (
-        pre .1 .0,
-        ((pre .1 .1 .1, at-inside, s .fits), (responds .is-response, omega (arith, responds .by-deadline, deadline-of cs ds ts shaped (getD order (j - 1) 0)))),
-      ),
-    )
+    let row = getD (start .args .order .now) (c .before .before .before .before .before .loop .j - 1) 0 in
+    let inside = row-inside (c .before .before .before) in
+    let responds = pre .1 .1 .0 row inside in
+    let by-deadline : getD (start .args .response .now) row 0 ≤ getD (start .args .d .now) row 0 = omega (arith, responds .by-deadline, deadline-of (start .args .c .now) (start .args .d .now) (start .args .t .now) (pre .0 .0) row) in
+    (pre .0, (pre .1 .0, ((pre .1 .1 .1, inside, c .before .before .before .before .before .loop .inv (pre .0 .0) .fits), (responds .is-response, by-deadline))))
 
 loop-less : tie.Need-loop-less Inv-loop μ-loop
 loop-less c = omega arith
@@ -141,15 +103,12 @@ loop-less c = omega arith
 loop-again : tie.Need-loop-again Inv-loop μ-loop
 loop-again c = λ shaped.
     let start = c .before .before .before .before .before .before .before .before .before .before .before .before in
-    let pre = start .pre in
-    let cs = start .args .c .now in
-    let ds = start .args .d .now in
-    let ts = start .args .t .now in
+    let rows = rowsOf (start .args .c .now) (start .args .d .now) (start .args .t .now) in
     let i = start .args .i in
-    let h = c .before .before .before .before .before .before .loop in
-    let s = h .inv shaped in
-    searching-lowers cs ds ts shaped (pre .0 .1) i (pre .1 .1 .1) (h .allowed) (h .j) s (omega arith) (c .largest-raise .result)
-    (subst (λ (k : ℕ). LargestRaise (rowsOf cs ds ts) i k (h .allowed) (c .largest-raise .result)) (order-ranked cs ds ts shaped (start .args .order .now) (pre .1 .0) (h .j - 1) (omega (arith, s .places))) (c .largest-raise .ensures))
+    let turn = c .before .before .before .before .before .before .loop in
+    let raise = c .largest-raise .result in
+    searching-lowers (start .args .c .now) (start .args .d .now) (start .args .t .now) shaped (start .pre .0 .1) i (start .pre .1 .1 .1) (turn .allowed) (turn .j) (turn .inv shaped) (omega arith) raise
+    (subst (λ (k : ℕ). LargestRaise rows i k (turn .allowed) raise) (row-ranked (c .before .before .before .before)) (c .largest-raise .ensures))
 
 loop-less-2 : tie.Need-loop-less-2 Inv-loop μ-loop
 loop-less-2 c = omega arith
@@ -157,15 +116,9 @@ loop-less-2 c = omega arith
 loop-again-2 : tie.Need-loop-again-2 Inv-loop μ-loop
 loop-again-2 c = λ shaped.
     let start = c .before .before .before .before .before .before .before .before .before .before in
-    let pre = start .pre in
-    let cs = start .args .c .now in
-    let ds = start .args .d .now in
-    let ts = start .args .t .now in
-    let i = start .args .i in
-    let h = c .before .before .before .before .loop in
-    let s = h .inv shaped in
-    searching-passes cs ds ts shaped (pre .0 .1) i (pre .1 .1 .1) (h .allowed) (h .j) s (omega arith)
-    (ap (touchesBy ds i) (sym (order-ranked cs ds ts shaped (start .args .order .now) (pre .1 .0) (h .j - 1) (omega (arith, s .places)))) ∙ sym (c .before .touches .ensures) ∙ c .if1 .left)
+    let turn = c .before .before .before .before .loop in
+    searching-passes (start .args .c .now) (start .args .d .now) (start .args .t .now) shaped (start .pre .0 .1) (start .args .i) (start .pre .1 .1 .1) (turn .allowed) (turn .j) (turn .inv shaped) (omega arith)
+    (ap (touchesBy (start .args .d .now) (start .args .i)) (sym (row-ranked (c .before .before))) ∙ sym (c .before .touches .ensures) ∙ c .if1 .left)
 
 returns : tie.Need-returns Inv-loop μ-loop
 returns c =
