@@ -14,9 +14,6 @@ use Rattle.climbs.proofs.InLists.{in-rows, climb-said, ranked, order-ranked, or
 use Rattle.responses.proofs.Answering.{Answering, answering-begins, answering-more, answering-stops, answering-ends}
 use Rattle.responses.proofs.responses_of.Statement.{statement}
 use Rattle.responses.proofs.responses_of.Tie as tie
-use Rattle.responses.proofs.responses_of.Reads as reads
-use Rattle.responses.proofs.responses_of.Lts as lts
-use Rattle.climbs.proofs.climb_row.Reads as climb-row-reads
 
 abbrev Inv-loop : tie.InvT-loop
 Inv-loop c d t order response₀ j₀ response j = (shaped : Shaped c d t) → Answering c d t shaped response j
@@ -35,7 +32,7 @@ element-copy-out-k c = omega (arith, c .before .before .before .before .before .
 
 -- the row that a turn takes, by its rank
 row-ranked :
-    (c : lts.After-k (climb-row-reads.Asked, climb-row-reads.Learnt) reads.Pre reads.Post Inv-loop μ-loop)
+    (c : tie.After-k Inv-loop μ-loop)
     → let start = c .before .before .before .before .before .before in let j = c .before .before .loop .j in getD (start .args .order .now) j 0 ≡ ranked (start .args .c .now) (start .args .d .now) (start .args .t .now) (start .pre .0 .0) j
 row-ranked c =
     let start = c .before .before .before .before .before .before in
@@ -43,7 +40,7 @@ row-ranked c =
 
 -- it is in the lists
 row-inside :
-    (c : lts.After-k (climb-row-reads.Asked, climb-row-reads.Learnt) reads.Pre reads.Post Inv-loop μ-loop)
+    (c : tie.After-k Inv-loop μ-loop)
     → let start = c .before .before .before .before .before .before in getD (start .args .order .now) (c .before .before .loop .j) 0 < length (start .args .c .now)
 row-inside c =
     let start = c .before .before .before .before .before .before in
@@ -51,7 +48,7 @@ row-inside c =
 
 -- what its climb said, by its rank
 climb-of-turn :
-    (c : lts.After-climb-row (climb-row-reads.Asked, climb-row-reads.Learnt) reads.Pre reads.Post Inv-loop μ-loop)
+    (c : tie.After-climb-row Inv-loop μ-loop)
     → (outcome : Outcome)
     → outcomeOf (c .climb-row .result) ≡ outcome
     → let start = c .before .before .before .before .before .before .before in

@@ -1,15 +1,11 @@
+-- `sets::begin` meets its contract: each stage's answer is the checks' or the response times'.
 use mathlib.Core.Path.{sym, _∙_}
+use Prim.Native.Nat.{_<_}
 use native.Mathlib.Omega.{arith}
 use borrow.Author.Needs.{needs}
 use Rattle.sets.proofs.Stages.{Passed, checks-refuse, checks-pass, verdict-on-time, verdict-late, late-in-set}
 use Rattle.sets.proofs.begin.Statement.{statement}
 use Rattle.sets.proofs.begin.Tie as tie
-use Rattle.sets.proofs.begin.Reads as reads
-use Rattle.sets.proofs.begin.Lts as lts
-use Rattle.climbs.proofs.ranking.Reads as ranking-reads
-use Rattle.refusals.proofs.check_lists.Reads as check-lists-reads
-use Rattle.refusals.proofs.number_of.Reads as number-of-reads
-use Rattle.responses.proofs.responses_of.Reads as responses-of-reads
 
 check-lists-requires : tie.Need-check-lists-requires
 check-lists-requires c κs = search needs
@@ -24,7 +20,7 @@ returns c =
     (λ none. absurd (c .if1 .taken (c .before .number-of .ensures ∙ none))) _ _
 
 passed :
-    (c : lts.Else1 (check-lists-reads.Asked, check-lists-reads.Learnt, number-of-reads.Asked, number-of-reads.Learnt, ranking-reads.Asked, ranking-reads.Learnt, responses-of-reads.Asked, responses-of-reads.Learnt) reads.Pre reads.Post)
+    (c : tie.Else1)
     → let args = c .before .before .before .before .before .before .args in Passed (args .c .now) (args .d .now) (args .t .now) (args .responses) (args .allowances)
 passed c =
     let args = c .before .before .before .before .before .before .args in
@@ -44,19 +40,18 @@ enum-told c = search needs
 enum-known-verdict : tie.Need-enum-known-verdict
 enum-known-verdict c = search needs
 
-cast-t21 : tie.Need-cast-t21
-cast-t21 c =
+-- the row that misses is one of at most 24
+late : (c : tie.After-known-told) → c .before .verdict .given .0 .0 < 24
+late c =
     let args = c .before .before .before .before .before .before .before .before .before .before .before .before .before .args in
-    let late = late-in-set (args .c .now) (args .d .now) (args .t .now) (args .responses) (args .allowances) (c .before .before .before .before .before .before .ranking .result) (c .before .before .before .before .responses-of .result .response)
-    (passed (c .before .before .before .before .before .before .before)) (c .before .before .before .before .responses-of .ensures .0) (c .before .verdict .given .0 .0) (c .before .verdict .given .1) in
-    omega (arith, late)
+    late-in-set (args .c .now) (args .d .now) (args .t .now) (args .responses) (args .allowances) (c .before .before .before .before .before .before .ranking .result) (c .before .before .before .before .responses-of .result .response) (passed (c .before .before .before .before .before .before .before)) (c .before .before .before .before .responses-of .ensures .0)
+    (c .before .verdict .given .0 .0) (c .before .verdict .given .1)
+
+cast-t21 : tie.Need-cast-t21
+cast-t21 c = omega (arith, late c)
 
 add-t22 : tie.Need-add-t22
-add-t22 c =
-    let args = c .before .before .before .before .before .before .before .before .before .before .before .before .before .args in
-    let late = late-in-set (args .c .now) (args .d .now) (args .t .now) (args .responses) (args .allowances) (c .before .before .before .before .before .before .ranking .result) (c .before .before .before .before .responses-of .result .response)
-    (passed (c .before .before .before .before .before .before .before)) (c .before .before .before .before .responses-of .ensures .0) (c .before .verdict .given .0 .0) (c .before .verdict .given .1) in
-    omega (arith, late)
+add-t22 c = omega (arith, late c)
 
 returns-2 : tie.Need-returns-2
 returns-2 c =

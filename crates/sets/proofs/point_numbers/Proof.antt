@@ -12,10 +12,6 @@ use Rattle.points.specs.Bounds.{IsSmall}
 use Rattle.sets.proofs.PointNumbers.{point-numbers-small}
 use Rattle.sets.proofs.point_numbers.Statement.{statement}
 use Rattle.sets.proofs.point_numbers.Tie as tie
-use Rattle.sets.proofs.point_numbers.Reads as reads
-use Rattle.sets.proofs.point_numbers.Lts as lts
-use Rattle.points.proofs.as_numbers.Reads as as-numbers-reads
-use Rattle.points.proofs.point_allowances.Reads as point-allowances-reads
 
 point-allowances-requires : tie.Need-point-allowances-requires
 point-allowances-requires c κs = search needs
@@ -25,7 +21,7 @@ array-share-prefix-signed c = search needs
 
 -- the allowances that are read are as many as the rows
 front-length :
-    (c : lts.After-point-allowances (point-allowances-reads.Asked, point-allowances-reads.Learnt, as-numbers-reads.Asked, as-numbers-reads.Learnt) reads.Pre reads.Post)
+    (c : tie.After-point-allowances)
     → let args = c .before .before .before .before .args in length (take (length (args .c .now)) (c .point-allowances .result)) ≡ length (args .c .now)
 front-length c =
     length-take-le (length (c .before .before .before .before .args .c .now)) (c .point-allowances .result) (omega (arith, c .point-allowances .ensures .1, c .before .before .before .before .pre .0 .0 .no-25th))

@@ -10,12 +10,6 @@ use Rattle.theory.specs.Points.{IsPointAllowance}
 use Rattle.sets.proofs.Stages.{Ready, begun-ready, allowances-may-follow, delivery-may-follow, begun-refused, ready-accepted}
 use Rattle.sets.proofs.point_service.Statement.{statement}
 use Rattle.sets.proofs.point_service.Tie as tie
-use Rattle.sets.proofs.point_service.Reads as reads
-use Rattle.sets.proofs.point_service.Lts as lts
-use Rattle.refusals.proofs.number_of.Reads as number-of-reads
-use Rattle.sets.proofs.begin.Reads as begin-reads
-use Rattle.sets.proofs.deliver.Reads as deliver-reads
-use Rattle.sets.proofs.point_numbers.Reads as point-numbers-reads
 
 begin-requires : tie.Need-begin-requires
 begin-requires c κs = search needs
@@ -31,7 +25,7 @@ returns c =
 
 -- past the test that the answer so far is 0
 ready :
-    (c : lts.Else1 (begin-reads.Asked, begin-reads.Learnt, number-of-reads.Asked, number-of-reads.Learnt, point-numbers-reads.Asked, point-numbers-reads.Learnt, deliver-reads.Asked, deliver-reads.Learnt) reads.Pre reads.Post)
+    (c : tie.Else1)
     → let args = c .before .before .before .before .before .before .before .before .args in Ready (args .c .now) (args .d .now) (args .t .now) (length (args .responses .now)) (length (args .allowances .now)) (c .before .before .begin .result .order) (c .before .before .begin .result .response)
 ready c =
     let args = c .before .before .before .before .before .before .before .before .args in

@@ -6,12 +6,6 @@ use Rattle.theory.specs.Allowance.{IsAllowance}
 use Rattle.sets.proofs.Stages.{Ready, begun-ready, allowances-may-follow, delivery-may-follow, begun-refused, ready-accepted}
 use Rattle.sets.proofs.set_service.Statement.{statement}
 use Rattle.sets.proofs.set_service.Tie as tie
-use Rattle.sets.proofs.set_service.Reads as reads
-use Rattle.sets.proofs.set_service.Lts as lts
-use Rattle.refusals.proofs.number_of.Reads as number-of-reads
-use Rattle.sets.proofs.begin.Reads as begin-reads
-use Rattle.sets.proofs.deliver.Reads as deliver-reads
-use Rattle.trials.proofs.trial_allowances.Reads as trial-allowances-reads
 
 begin-requires : tie.Need-begin-requires
 begin-requires c κs = search needs
@@ -27,7 +21,7 @@ returns c =
 
 -- past the test that the answer so far is 0
 ready :
-    (c : lts.Else1 (begin-reads.Asked, begin-reads.Learnt, number-of-reads.Asked, number-of-reads.Learnt, trial-allowances-reads.Asked, trial-allowances-reads.Learnt, deliver-reads.Asked, deliver-reads.Learnt) reads.Pre reads.Post)
+    (c : tie.Else1)
     → let args = c .before .before .before .before .before .before .before .before .args in Ready (args .c .now) (args .d .now) (args .t .now) (length (args .responses .now)) (length (args .allowances .now)) (c .before .before .begin .result .order) (c .before .before .begin .result .response)
 ready c =
     let args = c .before .before .before .before .before .before .before .before .args in

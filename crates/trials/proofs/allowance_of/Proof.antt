@@ -10,10 +10,6 @@ use Rattle.climbs.proofs.InLists.{in-lists, deadline-of, ranked, order-ranked, 
 use Rattle.trials.proofs.Search.{Searching, searching-begins, searching-lowers, searching-passes, searching-ends}
 use Rattle.trials.proofs.allowance_of.Statement.{statement}
 use Rattle.trials.proofs.allowance_of.Tie as tie
-use Rattle.trials.proofs.allowance_of.Reads as reads
-use Rattle.trials.proofs.allowance_of.Lts as lts
-use Rattle.trials.proofs.largest_raise.Reads as largest-raise-reads
-use Rattle.trials.proofs.touches.Reads as touches-reads
 
 abbrev Inv-loop : tie.InvT-loop
 Inv-loop c d t order response i allowed₀ j₀ allowed j = (shaped : Shaped c d t) → Searching c d t shaped i allowed j
@@ -61,7 +57,7 @@ element-copy-out-k c = omega (arith, c .before .before .before .before .before .
 
 -- the row that a turn takes, by its rank
 row-ranked :
-    (c : lts.After-k (touches-reads.Asked, touches-reads.Learnt, largest-raise-reads.Asked, largest-raise-reads.Learnt) reads.Pre reads.Post Inv-loop μ-loop)
+    (c : tie.After-k Inv-loop μ-loop)
     → let start = c .before .before .before .before .before .before .before .before in let j = c .before .before .loop .j - 1 in getD (start .args .order .now) j 0 ≡ ranked (start .args .c .now) (start .args .d .now) (start .args .t .now) (start .pre .0 .0) j
 row-ranked c =
     let start = c .before .before .before .before .before .before .before .before in
@@ -69,7 +65,7 @@ row-ranked c =
     (omega (arith, c .before .before .loop .inv (start .pre .0 .0) .places))
 
 -- it is in the lists
-row-inside : (c : lts.After-k (touches-reads.Asked, touches-reads.Learnt, largest-raise-reads.Asked, largest-raise-reads.Learnt) reads.Pre reads.Post Inv-loop μ-loop) → let start = c .before .before .before .before .before .before .before .before in getD (start .args .order .now) (c .before .before .loop .j - 1) 0 < length (start .args .c .now)
+row-inside : (c : tie.After-k Inv-loop μ-loop) → let start = c .before .before .before .before .before .before .before .before in getD (start .args .order .now) (c .before .before .loop .j - 1) 0 < length (start .args .c .now)
 row-inside c =
     let start = c .before .before .before .before .before .before .before .before in
     order-in-lists (start .args .c .now) (start .args .d .now) (start .args .t .now) (start .pre .0 .0) (start .args .order .now) (start .pre .1 .0) (c .before .before .loop .j - 1)

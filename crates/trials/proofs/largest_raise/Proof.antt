@@ -17,9 +17,6 @@ use Rattle.climbs.proofs.InLists.{in-rows, deadline-of, climb-said}
 use Rattle.trials.proofs.Halving.{Halving, most-meets, halving-begins, halving-upper, halving-lower, halving-ends}
 use Rattle.trials.proofs.largest_raise.Statement.{statement}
 use Rattle.trials.proofs.largest_raise.Tie as tie
-use Rattle.trials.proofs.largest_raise.Reads as reads
-use Rattle.trials.proofs.largest_raise.Lts as lts
-use Rattle.trials.proofs.trial.Reads as trial-reads
 
 abbrev Inv-loop : tie.InvT-loop
 Inv-loop c d t order i k response most low₀ high₀ start₀ low high start = Halving (rowsOf c d t) i k most low high start
@@ -28,18 +25,18 @@ abbrev μ-loop : tie.MeasureT-loop
 μ-loop c d t order i k response most low₀ high₀ start₀ low high start = high - low
 
 -- the set, and that rows i and k are in it
-abbrev rows : lts.Start (trial-reads.Asked, trial-reads.Learnt) reads.Pre reads.Post Inv-loop μ-loop → List Row
+abbrev rows : tie.Start Inv-loop μ-loop → List Row
 rows start = rowsOf (start .args .c .now) (start .args .d .now) (start .args .t .now)
 
-inside : (start : lts.Start (trial-reads.Asked, trial-reads.Learnt) reads.Pre reads.Post Inv-loop μ-loop) → start .args .i < length (rows start)
+inside : (start : tie.Start Inv-loop μ-loop) → start .args .i < length (rows start)
 inside start = in-rows (start .args .c .now) (start .args .d .now) (start .args .t .now) (start .pre .0 .0) (start .pre .1 .1 .0 .0)
 
-in-set : (start : lts.Start (trial-reads.Asked, trial-reads.Learnt) reads.Pre reads.Post Inv-loop μ-loop) → start .args .k < length (rows start)
+in-set : (start : tie.Start Inv-loop μ-loop) → start .args .k < length (rows start)
 in-set start = in-rows (start .args .c .now) (start .args .d .now) (start .args .t .now) (start .pre .0 .0) (start .pre .1 .1 .0 .1)
 
 -- what a trial said, up to row k's deadline
 trial-said :
-    (start : lts.Start (trial-reads.Asked, trial-reads.Learnt) reads.Pre reads.Post Inv-loop μ-loop) (a : ℕ) (answer : Climb) (outcome : Outcome)
+    (start : tie.Start Inv-loop μ-loop) (a : ℕ) (answer : Climb) (outcome : Outcome)
     → outcomeOf answer ≡ outcome
     → Climbed (load (raised (rows start) (start .args .i) a) (start .args .k)) (getD (start .args .d .now) (start .args .k) 0) (outcomeOf answer)
     → Climbed (load (raised (rows start) (start .args .i) a) (start .args .k)) (rowAt (rows start) (start .args .k) .D) outcome
