@@ -4,3 +4,4 @@ pub mod Test
 pub mod Law
 pub mod Certificate
 pub mod Sheets
+pub mod ShutOut

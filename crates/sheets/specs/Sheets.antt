@@ -71,7 +71,8 @@ row : ℕ → ℕ → ℕ → Row
 row c d t = record { C = c; D = d; T = t }
 
 -- the four rows of 001, table 1
-theFour : List Row
+unfoldable pub theFour : List Row
+unfolding row
 theFour = row 10 60 70 ∷ row 15 85 100 ∷ row 30 190 210 ∷ row 45 260 320 ∷ []
 
 -- the listing of sheet 3, line by line

@@ -19,6 +19,7 @@ returns c =
     checks-refuse (args .c .now) (args .d .now) (args .t .now) (args .responses) (args .allowances) (c .before .before .check-lists .ensures)
     (λ none. absurd (c .if1 .taken (c .before .number-of .ensures ∙ none))) _ _
 
+-- what the checks have passed
 passed :
     (c : tie.Else1)
     → let args = c .before .before .before .before .before .before .args in Passed (args .c .now) (args .d .now) (args .t .now) (args .responses) (args .allowances)
