@@ -5,9 +5,6 @@ use borrow.Author.Needs.{needs}
 use lib.Seq.{length-take-le}
 use Rattle.sets.proofs.deliver.Statement.{statement}
 use Rattle.sets.proofs.deliver.Tie as tie
-use Rattle.sets.proofs.deliver.Reads as reads
-use Rattle.sets.proofs.deliver.Lts as lts
-use Rattle.sets.proofs.fill.Reads as fill-reads
 
 slice-aggregate-fill : tie.Need-slice-aggregate-fill
 slice-aggregate-fill c = sym (length-take-le (c .before .before .before .before .before .before .args .n) (c .before .before .before .before .before .before .args .response .now) (c .before .before .before .before .before .before .pre .0 .0))

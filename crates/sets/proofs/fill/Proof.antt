@@ -9,8 +9,6 @@ use lib.Seq.{take-length}
 use Rattle.sets.proofs.Front.{filled-one-more}
 use Rattle.sets.proofs.fill.Statement.{statement}
 use Rattle.sets.proofs.fill.Tie as tie
-use Rattle.sets.proofs.fill.Reads as reads
-use Rattle.sets.proofs.fill.Lts as lts
 
 abbrev Inv-loop : tie.InvT-loop
 Inv-loop list₀ numbers j₀ list j = (j ≤ length numbers) × (length list ≡ length list₀) × (list ≡ take j numbers ++ drop j list₀)

@@ -5,11 +5,6 @@ use lib.Seq.{length-take-le}
 use borrow.Author.Needs.{needs}
 use Rattle.sets_run.proofs.run.Statement.{statement}
 use Rattle.sets_run.proofs.run.Tie as tie
-use Rattle.sets_run.proofs.run.Reads as reads
-use Rattle.sets_run.proofs.run.Lts as lts
-use Rattle.sets_run.proofs.run_points.Reads as run-points-reads
-use Rattle.sets_run.proofs.run_set.Reads as run-set-reads
-use Rattle.sets_run.proofs.say.Reads as say-reads
 
 returns : tie.Need-returns
 returns c = search needs

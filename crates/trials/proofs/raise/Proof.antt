@@ -8,8 +8,6 @@ use lib.ListN.{length, getD, take, set, length-set}
 use lib.Seq.{take-length, take-suc, take-suc-set, take-set-lt}
 use Rattle.trials.proofs.raise.Statement.{statement}
 use Rattle.trials.proofs.raise.Tie as tie
-use Rattle.trials.proofs.raise.Reads as reads
-use Rattle.trials.proofs.raise.Lts as lts
 
 abbrev Inv-loop : tie.InvT-loop
 Inv-loop c i a raised₀ j₀ raised j = (j ≤ length c) × (length raised ≡ 24) × (take j raised ≡ take j c)

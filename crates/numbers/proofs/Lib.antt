@@ -1,0 +1,2 @@
+-- Laws of four bytes within a byte string.
+pub mod FourBytes
