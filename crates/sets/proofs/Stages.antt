@@ -32,31 +32,28 @@ module _ (cs ds ts : List ℕ) (responses allowances : ℕ) where
     pub responses-fit : length cs ≤ responses
     pub allowances-fit : length cs ≤ allowances
 
-  pub checks-refuse : {a : Answer} → Checked cs ds ts responses allowances a → (numberOf a ≡ 0 → ⊥) → (order response : List ℕ) → IsBegun cs ds ts responses allowances order response a
-  checks-refuse (checks.rows-out-of-range n) r order response = stage.rows-out-of-range n
-  checks-refuse (checks.row-breaks-limits k s f) r order response = stage.row-breaks-limits k s f
-  checks-refuse (checks.output-too-short s w o) r order response = stage.output-too-short s w o
-  checks-refuse (checks.passed s w p q) r order response = absurd (r refl)
+  pub checks-accept : {a : Answer} → Checked cs ds ts responses allowances a → numberOf a ≡ 0 → Checked cs ds ts responses allowances Accepted
+  checks-accept (checks.rows-out-of-range n) e = absurd (omega arith)
+  checks-accept (checks.row-breaks-limits k s f) e = absurd (omega arith)
+  checks-accept (checks.output-too-short s w o) e = absurd (omega arith)
+  checks-accept (checks.passed s w p q) e = checks.passed s w p q
 
-  pub checks-pass : {a : Answer} → Checked cs ds ts responses allowances a → numberOf a ≡ 0 → Passed
-  checks-pass (checks.rows-out-of-range n) e = absurd (omega arith)
-  checks-pass (checks.row-breaks-limits k s f) e = absurd (omega arith)
-  checks-pass (checks.output-too-short s w o) e = absurd (omega arith)
-  checks-pass (checks.passed s w p q) e = record { shaped = s; within = w; responses-fit = p; allowances-fit = q }
+  pub checks-pass : Checked cs ds ts responses allowances Accepted → Passed
+  checks-pass (checks.passed s w p q) = record { shaped = s; within = w; responses-fit = p; allowances-fit = q }
 
-  module _ (order response : List ℕ) (passed : Passed) {verdict : Verdict} (said : IsVerdict (rowsOf cs ds ts) response verdict) where
+  module _ (order response : List ℕ) (checked : Checked cs ds ts responses allowances Accepted) {verdict : Verdict} (said : IsVerdict (rowsOf cs ds ts) response verdict) where
     pub verdict-on-time : take (length ds) order ≡ rankingBy ds → length response ≡ 24 → verdict ≡ OnTime → IsBegun cs ds ts responses allowances order response Accepted
-    verdict-on-time ranked long on-time = stage.begun (passed .shaped) (passed .within) (passed .responses-fit) (passed .allowances-fit) ranked long (subst (IsVerdict (rowsOf cs ds ts) response) on-time said)
+    verdict-on-time ranked long on-time = stage.begun checked ranked long (subst (IsVerdict (rowsOf cs ds ts) response) on-time said)
 
     pub verdict-late : (k : ℕ) → verdict ≡ Late k → IsBegun cs ds ts responses allowances order response (RowMisses (k + 1))
     verdict-late k late =
         subst (λ (row : ℕ). IsBegun cs ds ts responses allowances order response (RowMisses row)) (sym (add-one k))
-        (stage.row-misses k (passed .shaped) (passed .within) (passed .responses-fit) (passed .allowances-fit) (subst (IsVerdict (rowsOf cs ds ts) response) late said))
+        (stage.row-misses k checked (subst (IsVerdict (rowsOf cs ds ts) response) late said))
 
     pub late-in-set : (k : ℕ) → verdict ≡ Late k → k < 24
     late-in-set k late =
-        let inside : k < length cs = in-lists cs ds ts (passed .shaped) (subst (IsVerdict (rowsOf cs ds ts) response) late said .in-set) in
-        omega (arith, passed .shaped .no-25th)
+        let inside : k < length cs = in-lists cs ds ts (checks-pass checked .shaped) (subst (IsVerdict (rowsOf cs ds ts) response) late said .in-set) in
+        omega (arith, checks-pass checked .shaped .no-25th)
 
 -- what is there when the allowances are still to come
 pub record Ready (cs ds ts : List ℕ) (responses allowances : ℕ) (order response : List ℕ) : Type 0 where
@@ -69,12 +66,10 @@ pub begun-ready : (cs ds ts : List ℕ) (responses allowances : ℕ) (order resp
     → IsBegun cs ds ts responses allowances order response a
     → numberOf a ≡ 0
     → Ready cs ds ts responses allowances order response
-begun-ready cs ds ts responses allowances order response (stage.rows-out-of-range n) e = absurd (omega arith)
-begun-ready cs ds ts responses allowances order response (stage.row-breaks-limits k s f) e = absurd (omega arith)
-begun-ready cs ds ts responses allowances order response (stage.output-too-short s w o) e = absurd (omega arith)
-begun-ready cs ds ts responses allowances order response (stage.row-misses k s w p q m) e = absurd (omega arith)
-begun-ready cs ds ts responses allowances order response (stage.begun s w p q o l t) e =
-    record { passed = record { shaped = s; within = w; responses-fit = p; allowances-fit = q }; ranked = o; long = l; in-time = t }
+begun-ready cs ds ts responses allowances order response (stage.refused checked r) e = absurd (r e)
+begun-ready cs ds ts responses allowances order response (stage.row-misses k checked m) e = absurd (omega arith)
+begun-ready cs ds ts responses allowances order response (stage.begun checked o l t) e =
+    record { passed = checks-pass cs ds ts responses allowances checked; ranked = o; long = l; in-time = t }
 
 module _ (cs ds ts : List ℕ) (responses allowances : ℕ) (order response : List ℕ) (ready : Ready cs ds ts responses allowances order response) where
   -- what either way to the allowances asks
@@ -95,11 +90,12 @@ module _ (Allowance : List Row → ℕ → ℕ → Type 0) (cs ds ts responses a
       → IsBegun cs ds ts (length responses) (length allowances) order response a
       → (numberOf a ≡ 0 → ⊥)
       → Answered Allowance cs ds ts responses allowances a responses allowances
-  begun-refused order response (stage.rows-out-of-range n) r = lists.rows-out-of-range n
-  begun-refused order response (stage.row-breaks-limits k s f) r = lists.row-breaks-limits k s f
-  begun-refused order response (stage.output-too-short s w o) r = lists.output-too-short s w o
-  begun-refused order response (stage.row-misses k s w p q m) r = lists.row-misses k s w p q m
-  begun-refused order response (stage.begun s w p q o l t) r = absurd (r refl)
+  begun-refused order response (stage.refused (checks.rows-out-of-range n) r) s = lists.rows-out-of-range n
+  begun-refused order response (stage.refused (checks.row-breaks-limits k shaped f) r) s = lists.row-breaks-limits k shaped f
+  begun-refused order response (stage.refused (checks.output-too-short shaped w o) r) s = lists.output-too-short shaped w o
+  begun-refused order response (stage.refused (checks.passed shaped w p q) r) s = absurd (r refl)
+  begun-refused order response (stage.row-misses k (checks.passed shaped w p q) m) s = lists.row-misses k shaped w p q m
+  begun-refused order response (stage.begun checked o l t) s = absurd (s refl)
 
   -- with an allowance for each row the call is accepted
   pub ready-accepted : (order response allowed : List ℕ)

@@ -78,7 +78,8 @@ fn sheets() {
     run(b"sheet 10", &[5, 11], &[10, 20], &[10, 20], 2, 2);
 }
 
-fn refused() {
+// Refusals 3 and 4.
+fn refused_rows() {
     run(b"no rows", &[], &[], &[], 1, 1);
     run(b"25 rows", &[1; 25], &[100; 25], &[100; 25], 25, 25);
     run(b"fewer deadlines", &[1, 1], &[10], &[10, 10], 2, 2);
@@ -103,6 +104,10 @@ fn refused() {
         0,
         0,
     );
+}
+
+// Refusals 7 and 8.
+fn refused_lists() {
     run(b"responses short by one", &[1, 1], &[5, 5], &[5, 5], 1, 2);
     run(b"allowances short by one", &[1, 1], &[5, 5], &[5, 5], 2, 1);
     run(
@@ -153,6 +158,7 @@ fn lengths() {
 
 fn main() {
     sheets();
-    refused();
+    refused_rows();
+    refused_lists();
     lengths();
 }
