@@ -1,4 +1,4 @@
-// Numbers of four bytes, read from a byte string and written into one: document 01, "Records".
+// Bytes and numbers of four bytes, read from a byte string and written into one: document 01, "Records".
 ghost use mathlib.Core.Path.{_≡_};
 ghost use Prim.Native.Nat.{_+_, _≤_, _<_};
 ghost use mathlib.Core.List.{_++_};
@@ -32,4 +32,16 @@ pub fn put_number(bytes: &mut [u8], at: usize, n: u32)
     bytes[at + 1] = (n / 65536 % 256) as u8;
     bytes[at + 2] = (n / 256 % 256) as u8;
     bytes[at + 3] = (n % 256) as u8;
+}
+
+// Writes bytes into a byte string from a place on.
+pub fn put_bytes(bytes: &mut [u8], at: usize, part: &[u8])
+    requires { ⌜ at + length (now part) ≤ length (now bytes) ⌝ }
+    ensures { λ _. ⌜ now (bytes .exit) ≡ take at (now (bytes .entry)) ++ now (part .entry) ++ drop (at + length (now (part .entry))) (now (bytes .entry)) ⌝ }
+{
+    let mut j = 0;
+    while j < part.len() {
+        bytes[at + j] = part[j];
+        j += 1;
+    }
 }
