@@ -22,6 +22,10 @@ coreRows (row ∷ rows) (core ∷ assignment) m = elim (eqb core m) [ true ↦ r
 abbrev pub coreOf : List ℕ → ℕ → ℕ
 coreOf assignment i = getD assignment i 0
 
+-- the places of the rows on core m, in table order
+unfoldable pub placesOn : List ℕ → ℕ → List ℕ
+placesOn assignment m = keep (λ h. eqb (coreOf assignment h) m) (upFrom 0 (length assignment))
+
 -- the place of row i among the rows of its core: as many as stand before it there
 unfoldable pub placeOnCore : List ℕ → ℕ → ℕ
 placeOnCore assignment i = length (keep (λ h. eqb (coreOf assignment h) (coreOf assignment i)) (upFrom 0 i))

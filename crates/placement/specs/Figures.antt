@@ -1,7 +1,7 @@
 -- The figures of an accepted placement: demand 2, and document 01, "Allowance".
 use mathlib.Core.Path.{_≡_}
 use Prim.Native.Nat.{ℕ, _≤_, _<_}
-use mathlib.Core.List.{List, []}
+use mathlib.Core.List.{List, [], _∷_}
 use lib.ListN.{length, getD}
 use Rattle.theory.specs.Row.{Row}
 use Rattle.theory.specs.Response.{IsResponse}
@@ -21,6 +21,14 @@ pub record IsFigures (rows : List Row) (assignment : List ℕ) (i : ℕ) (figure
   pub its-core : figures .core ≡ coreOf assignment i
   pub its-response : IsResponse (coreRows rows assignment (figures .core)) (placeOnCore assignment i) (figures .response)
   pub its-allowance : IsAllowance (coreRows rows assignment (figures .core)) (placeOnCore assignment i) (figures .allowance)
+
+-- the figures that three lists of one length are
+unfoldable pub figuresFrom : List ℕ → List ℕ → List ℕ → List Figures
+figuresFrom [] responses allowances = []
+figuresFrom (core ∷ cores) [] allowances = []
+figuresFrom (core ∷ cores) (response ∷ responses) [] = []
+figuresFrom (core ∷ cores) (response ∷ responses) (allowance ∷ allowances) =
+    record { core = core; response = response; allowance = allowance } ∷ figuresFrom cores responses allowances
 
 -- the figures at a place of a list of them
 abbrev pub figuresAt : List Figures → ℕ → Figures
