@@ -1,0 +1,2 @@
+-- Laws of the choice between candidates.
+pub mod Among

@@ -1,0 +1,2 @@
+-- The choice between candidates, as the code holds it.
+pub mod Among
