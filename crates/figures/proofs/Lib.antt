@@ -1,0 +1,3 @@
+-- Laws of the figures of placed rows.
+pub mod Scattered
+pub mod CoreNumbers
