@@ -15,7 +15,7 @@ use Rattle.placement.proofs.Determined.{certificate-unique}
 use Rattle.records.specs.Reading.{readTable, table, refused}
 use Rattle.records.specs.Report.{reportBytes, reportLength}
 use Rattle.listing.specs.Listing.{listing, refusal}
-use Rattle.service.specs.Table.{TableAnswered, Listed}
+use Rattle.service.specs.Table.{TableAnswered, Listed, ListingAnswered}
 
 -- two results of the table service that are the same
 pub record Same (answer other : Answer) (report other-report : List ℕ) : Type 0 where
@@ -96,3 +96,11 @@ module _ (rule : Rule) (is-rule : IsRule rule) (bytes : List ℕ) where
   listed-unique (Listed.accepted t all p c) (Listed.not-a-table b q) = not-both t b p q
   listed-unique (Listed.accepted t all p c) (Listed.no-core-takes u j q r) = not-certified u t j all q p r c
   listed-unique (Listed.accepted t all p c) (Listed.accepted u others q d) = ap listing (one-list t u all others p q c d)
+
+  -- so are the answer of the listing and every byte that it is lent
+  pub listing-answered-unique : {n m : ℕ} {listing first second : List ℕ} → ListingAnswered rule bytes listing n first → ListingAnswered rule bytes listing m second → (n ≡ m) × (first ≡ second)
+  listing-answered-unique {listing = listing} (ListingAnswered.written lines p l) (ListingAnswered.written others q m) =
+      let same : lines ≡ others = listed-unique p q in (ap length same, ap (λ (x : List ℕ). filled x listing) same)
+  listing-answered-unique (ListingAnswered.written lines p l) (ListingAnswered.too-short others q m) = absurd (omega (arith, ap length (listed-unique p q)))
+  listing-answered-unique (ListingAnswered.too-short lines p l) (ListingAnswered.written others q m) = absurd (omega (arith, ap length (listed-unique p q)))
+  listing-answered-unique (ListingAnswered.too-short lines p l) (ListingAnswered.too-short others q m) = (refl, refl)

@@ -55,3 +55,8 @@ pub data Listed (rule : Rule) (bytes : List ℕ) : List ℕ → Type 0 where
       → readTable bytes ≡ table t
       → Certified rule t all
       → Listed rule bytes (listing all)
+
+-- the listing's answer to table bytes and a lent byte string, and that at the end: how many bytes were written; 0, and nothing is, where they do not fit
+pub data ListingAnswered (rule : Rule) (bytes listing : List ℕ) : ℕ → List ℕ → Type 0 where
+  written : (lines : List ℕ) → Listed rule bytes lines → length lines ≤ length listing → ListingAnswered rule bytes listing (length lines) (filled lines listing)
+  too-short : (lines : List ℕ) → Listed rule bytes lines → length listing < length lines → ListingAnswered rule bytes listing 0 listing
