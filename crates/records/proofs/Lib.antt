@@ -7,3 +7,4 @@ pub mod Lengths
 pub mod Report
 pub mod ListBytes
 pub mod BytesAnswered
+pub mod Longest
