@@ -5,6 +5,7 @@ pub mod Reading
 pub mod ReadingBack
 pub mod Lengths
 pub mod Report
+pub mod ReportFigures
 pub mod ListBytes
 pub mod BytesAnswered
 pub mod Longest
