@@ -1,2 +1,3 @@
 -- Laws of the table service's promise.
 pub mod Table
+pub mod Copied

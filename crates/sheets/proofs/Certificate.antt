@@ -5,16 +5,17 @@ use mathlib.Core.Bool.{_&&_}
 use mathlib.Core.List.{List}
 use lib.Dec.{T, leb, leb→le, eqb→eq}
 use lib.ListN.{length}
-use Rattle.theory.specs.declared.Answer.the-variants.{NoCoreTakes}
+use Rattle.theory.specs.declared.Answer.the-variants.{Accepted, NoCoreTakes}
+use Rattle.theory.specs.Lists.{filled}
 use Rattle.theory.proofs.Tests.{and-first, and-second}
 use Rattle.placement.specs.Core.{Table}
 use Rattle.placement.specs.Choice.{allowanceFit}
-use Rattle.placement.specs.Figures.{Certificate, certified, noCoreTakes, IsCertificate}
+use Rattle.placement.specs.Figures.{Figures, Certificate, certified, noCoreTakes, IsCertificate}
 use Rattle.placement.specs.Placing.{certificate}
 use Rattle.placement.proofs.Fit.{allowance-fit-is-rule}
 use Rattle.placement.proofs.Computed.{certificate-is}
 use Rattle.records.specs.Reading.{readTable, table, TableWithin}
-use Rattle.records.specs.Report.{tableBytes, reportLength}
+use Rattle.records.specs.Report.{tableBytes, reportBytes, reportLength}
 use Rattle.records.proofs.ReadingBack.{table-reads-back}
 use Rattle.service.specs.Table.{TableAnswered, Listed}
 use Rattle.sheets.proofs.Test.{isSet, isTable, textOf, stopsAt}
@@ -46,6 +47,12 @@ module _ (t : Table) (passes : T (isTable t)) where
       go : (c : Certificate) → IsCertificate allowanceFit t c → Listed allowanceFit (tableBytes t) (textOf c)
       go (certified all) is = Listed.accepted t all reads is
       go (noCoreTakes i) is = Listed.no-core-takes t i reads is
+
+  pub accepted-holds : (all : List Figures) → certificate allowanceFit t ≡ certified all
+      → (report : List ℕ)
+      → reportLength (length (t .rows)) ≤ length report
+      → TableAnswered allowanceFit (tableBytes t) report Accepted (filled (reportBytes t all) report)
+  accepted-holds all e report long = TableAnswered.accepted t all reads long (subst (IsCertificate allowanceFit t) e is-certificate)
 
   pub no-core-takes-holds : (k : ℕ) → T (stopsAt (certificate allowanceFit t) k)
       → (report : List ℕ)

@@ -1,7 +1,8 @@
--- The sheets hold.
+-- The sheets hold, and the versions that the promises shut out.
 pub mod Columns
 pub mod Test
 pub mod Law
 pub mod Certificate
 pub mod Sheets
 pub mod ShutOut
+pub mod TableShutOut

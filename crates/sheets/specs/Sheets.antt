@@ -67,7 +67,7 @@ Holds (no-core-takes table k) =
     (report : List ℕ) → reportLength (length (table .rows)) ≤ length report → TableAnswered allowanceFit (tableBytes table) report (NoCoreTakes (suc k)) report
 
 -- a row, written C/D/T in the document
-row : ℕ → ℕ → ℕ → Row
+unfoldable pub row : ℕ → ℕ → ℕ → Row
 row c d t = record { C = c; D = d; T = t }
 
 -- the four rows of 001, table 1
