@@ -7,3 +7,4 @@ pub mod Bounding
 pub mod Held
 pub mod Touched
 pub mod Allowed
+pub mod Small

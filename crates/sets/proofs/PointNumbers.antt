@@ -1,40 +1,16 @@
--- Where all rows are on time, a point allowance is a number from 0 to a million.
-use mathlib.Core.Path.{_≡_, sym, subst}
-use Prim.Native.Nat.{ℕ, _+_, _≤_, _<_}
+-- Where all rows in the lists are on time, a point allowance is a number from 0 to a million.
+use Prim.Native.Nat.{ℕ, _<_}
 use mathlib.Core.List.{List}
-use native.Mathlib.Omega.{arith}
-use lib.IntN.{ℤ, pos, natAbs}
-use lib.ListN.{length, getD, length-set}
-use lib.Signed.{pos-natAbs, yes-nonNeg}
-use Rattle.theory.specs.Row.{Row, rowAt, AllWithin}
-use Rattle.theory.specs.Response.{Meets, AllMeet}
-use Rattle.theory.specs.Allowance.{longer, raised, IsAllowance}
+use lib.IntN.{ℤ}
+use lib.ListN.{length, getD}
+use Rattle.theory.specs.Row.{AllWithin}
 use Rattle.theory.specs.Points.{IsPointAllowance}
 use Rattle.theory.specs.Lists.{rowsOf, Shaped}
-use Rattle.theory.proofs.Verdict.{within-steady}
-use Rattle.theory.proofs.Allowance.{not-negative, allowance-of-points}
-use Rattle.theory.proofs.Trial.{raise-bounded}
 use Rattle.climbs.proofs.InLists.{in-lists, in-rows}
 use Rattle.responses.specs.Verdict.{RespondsInTime}
 use Rattle.points.specs.Bounds.{IsSmall}
+use Rattle.points.proofs.Small.{point-allowance-small}
 
-pub point-allowance-small : (rows : List Row) → AllWithin rows → AllMeet rows → (i : ℕ) → i < length rows → (z : ℤ) → IsPointAllowance rows i z → IsSmall z
-point-allowance-small rows within all i inside z is-z =
-    record { number = natAbs z; by-million = omega (arith, room, within i inside .by-period, within i inside .by-million); is-number = sym same }
-  where
-    same : pos (natAbs z) ≡ z
-    same = pos-natAbs z (yes-nonNeg (not-negative rows (within-steady rows within) i inside all z is-z))
-
-    is-allowance : IsAllowance rows i (natAbs z)
-    is-allowance = allowance-of-points rows (within-steady rows within) i inside all (natAbs z) (subst (IsPointAllowance rows i) (sym same) is-z)
-
-    still-meets : Meets (raised rows i (natAbs z)) i
-    still-meets = is-allowance .all-meet i (subst (λ (n : ℕ). i < n) (sym (length-set rows i (longer (rowAt rows i) (natAbs z)))) inside)
-
-    room : all i inside .response + natAbs z ≤ rowAt rows i .D
-    room = raise-bounded rows i inside (natAbs z) (all i inside .response) (within i inside .runs) (all i inside .is-response) still-meets
-
--- the same of rows in lists
 pub point-numbers-small : (cs ds ts response : List ℕ)
     → Shaped cs ds ts
     → AllWithin (rowsOf cs ds ts)

@@ -3,13 +3,11 @@ use mathlib.Core.Path.{_≡_, refl, sym, ap, _∙_}
 use Prim.Native.Nat.{ℕ, _-_, _≤_, _<_}
 use native.Mathlib.Omega.{arith}
 use borrow.Author.Count.{below-more}
-use lib.IntN.{ℤ, pos, natAbs}
-use mir.Syntax.{w64}
-use mir.Val.{toZ, ofZ}
-use mir.ValLaws.{toZ-ofZ}
-use Rattle.points.specs.Bounds.{IsSmall}
+use lib.IntN.{pos, natAbs}
 use lib.ListN.{length, getD, length-set}
 use lib.Seq.{getD-set-same, getD-set-other}
+use Rattle.walks.proofs.Held.{held}
+use Rattle.points.proofs.Small.{small-bits}
 use Rattle.points.proofs.as_numbers.Statement.{statement}
 use Rattle.points.proofs.as_numbers.Tie as tie
 
@@ -28,11 +26,6 @@ mul-numbers c = omega arith
 
 shared-slice-copy-out-numbers : tie.Need-shared-slice-copy-out-numbers Inv-loop μ-loop
 shared-slice-copy-out-numbers c = omega arith
-
--- a small number out of its bits is the number
-small-bits : (z : ℤ) (small : IsSmall z) → toZ w64 (ofZ w64 z) ≡ pos (small .number)
-small-bits z small =
-    ap (λ (y : ℤ). toZ w64 (ofZ w64 y)) (small .is-number) ∙ toZ-ofZ w64 (pos (small .number)) (record { sfits = omega (arith, small .by-million) })
 
 cast-numbers : tie.Need-cast-numbers Inv-loop μ-loop
 cast-numbers c =
@@ -59,7 +52,7 @@ loop-again c =
     let inv = c .before .before .loop .inv in
     let z = getD (start .args .allowed .now) i (pos 0) in
     let small = start .pre .1 i (omega arith) in
-    let number = natAbs (toZ w64 (ofZ w64 z)) in (
+    let number = natAbs (held z) in (
       omega arith,
       length-set numbers i number ∙ inv .1,
       below-more _ _

@@ -1,0 +1,3 @@
+-- The laws that the proofs of the fit stand on.
+pub mod SmallestOf
+pub mod ByPoints

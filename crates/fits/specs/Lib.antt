@@ -1,0 +1,3 @@
+-- Whether rows fit on a core.
+pub mod Fit
+pub mod Smallest
