@@ -1,13 +1,13 @@
 -- Decimal numbers as the listing prints them: digits with no leading zero, from which the number reads back.
 use mathlib.Core.Path.{_≡_, refl, ap, _∙_}
-use Prim.Native.Nat.{ℕ, zero, suc, _+_, _-_, _*_, _≤_, _<_}
+use Prim.Native.Nat.{ℕ, zero, suc, _+_, _-_, _*_, _/_, _%_, _≤_, _<_}
 use native.Mathlib.Nat.{le-of-suc-le-suc}
 use mathlib.Core.Bool.{Bool, true, false}
-use mathlib.Core.List.{List, [], _∷_}
+use mathlib.Core.List.{List, [], _∷_, _++_}
 use native.Mathlib.Omega.{arith}
 use lib.Dec.{ltb}
 use lib.ListN.{length, getD}
-use borrow.Author.Tests.{ltb-true, ltb-false}
+use borrow.Author.Tests.{ltb-true, ltb-false, lt-ltb, le-ltb}
 use Rattle.listing.specs.Listing.{digitsBefore, decimal}
 
 -- the number that decimal digits are, after those that made `so-far`
@@ -91,3 +91,44 @@ decimal-some-digit n = decimal-digits n .some-digit
 -- it is zero for 0 only
 pub decimal-no-leading-zero : (n : ℕ) → getD (decimal n) 0 0 ≡ 48 → n ≡ 0
 decimal-no-leading-zero n = decimal-digits n .no-leading-zero
+
+-- what stands behind stays behind
+digits-in-front : (steps n : ℕ) (front behind : List ℕ) → digitsBefore steps n (front ++ behind) ≡ digitsBefore steps n front ++ behind
+unfolding digitsBefore
+digits-in-front zero n front behind = refl
+digits-in-front (suc steps) n front behind = go (ltb n 10) (digits-in-front steps (n / 10) ((48 + n % 10) ∷ front) behind)
+  where
+    go :
+        (one-digit : Bool)
+        → digitsBefore steps (n / 10) ((48 + n % 10) ∷ (front ++ behind)) ≡ digitsBefore steps (n / 10) ((48 + n % 10) ∷ front) ++ behind
+        → elim one-digit [ true ↦ (48 + n) ∷ (front ++ behind) | false ↦ digitsBefore steps (n / 10) ((48 + n % 10) ∷ (front ++ behind)) ]
+        ≡ elim one-digit [ true ↦ (48 + n) ∷ front | false ↦ digitsBefore steps (n / 10) ((48 + n % 10) ∷ front) ] ++ behind
+    go true before = refl
+    go false before = before
+
+-- with steps enough, their number does not matter
+steps-enough : (steps more n : ℕ) (behind : List ℕ) → n < steps → n < more → digitsBefore steps n behind ≡ digitsBefore more n behind
+unfolding digitsBefore
+steps-enough zero more n behind enough also = absurd (omega arith)
+steps-enough (suc steps) zero n behind enough also = absurd (omega arith)
+steps-enough (suc steps) (suc more) n behind enough also =
+    go (ltb n 10) refl (λ (large : 10 ≤ n). steps-enough steps more (n / 10) ((48 + n % 10) ∷ behind) (omega arith) (omega arith))
+  where
+    go :
+        (one-digit : Bool) → ltb n 10 ≡ one-digit
+        → (10 ≤ n → digitsBefore steps (n / 10) ((48 + n % 10) ∷ behind) ≡ digitsBefore more (n / 10) ((48 + n % 10) ∷ behind))
+        → digitsBefore (suc steps) n behind ≡ digitsBefore (suc more) n behind
+    go true one-digit before = rw (one-digit, digitsBefore)
+    go false more-digits before = rw (more-digits, digitsBefore) (before (ltb-false n 10 more-digits))
+
+-- a number below ten is one digit
+pub decimal-one-digit : (n : ℕ) → n < 10 → decimal n ≡ (48 + n) ∷ []
+unfolding decimal digitsBefore
+decimal-one-digit n small = rw (lt-ltb n 10 small, digitsBefore)
+
+-- from ten on, it is the digits of the tens and the last digit
+pub decimal-more-digits : (n : ℕ) → 10 ≤ n → decimal n ≡ decimal (n / 10) ++ ((48 + n % 10) ∷ [])
+unfolding decimal digitsBefore
+decimal-more-digits n large =
+    rw (le-ltb n 10 large, digitsBefore)
+    (digits-in-front n (n / 10) [] ((48 + n % 10) ∷ []) ∙ ap (λ digits. digits ++ ((48 + n % 10) ∷ [])) (steps-enough n (suc (n / 10)) (n / 10) [] (omega arith) (omega arith)))

@@ -2,3 +2,4 @@
 pub mod Header
 pub mod Decimal
 pub mod SystemAllowance
+pub mod RowLines

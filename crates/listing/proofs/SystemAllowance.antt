@@ -1,14 +1,15 @@
 -- The system's allowance that the listing prints is the smallest of all rows', and the only one that is.
-use mathlib.Core.Path.{_≡_, refl}
-use Prim.Native.Nat.{ℕ, zero, suc, _≤_, _<_, suc-le-suc}
+use mathlib.Core.Path.{_≡_, refl, ap, _∙_}
+use Prim.Native.Nat.{ℕ, zero, suc, _≤_, _<_, min, suc-le-suc}
 use native.Mathlib.Nat.{le-of-suc-le-suc}
 use mathlib.Core.Bool.{Bool, true, false}
 use mathlib.Core.List.{List, [], _∷_}
 use native.Mathlib.Omega.{arith}
-use lib.Dec.{leb}
-use lib.ListN.{length}
-use borrow.Author.Tests.{leb-true, leb-false}
-use Rattle.placement.specs.Figures.{Figures, figuresAt, IsSystemAllowance}
+use lib.Dec.{leb, ltb}
+use lib.ListN.{length, getD, drop}
+use borrow.Author.Tests.{leb-true, leb-false, ltb-true, ltb-false}
+use Rattle.theory.specs.Gather.{best}
+use Rattle.placement.specs.Figures.{Figures, figuresFrom, figuresAt, IsSystemAllowance}
 use Rattle.listing.specs.Listing.{smallestAllowance, systemAllowance}
 
 -- a row whose allowance is no smaller may stand in front
@@ -72,3 +73,29 @@ system-allowance-smallest (figures ∷ others) some = smallest-allowance figures
 -- there is one system allowance
 pub system-allowance-unique : (all : List Figures) (a b : ℕ) → IsSystemAllowance all a → IsSystemAllowance all b → a ≡ b
 system-allowance-unique all a b is-a is-b = omega (arith, is-a .smallest (is-b .row) (is-b .in-table), is-b .smallest (is-a .row) (is-a .in-table))
+
+-- with an allowance at hand, the smallest of the figures that three lists are is the best of it and the third list's numbers, where less is better
+smallest-of-lists : (cores responses allowances : List ℕ) → length responses ≡ length cores → length allowances ≡ length cores → (a : ℕ)
+    → smallestAllowance a (figuresFrom cores responses allowances) ≡ best ltb a allowances
+unfolding smallestAllowance figuresFrom best
+smallest-of-lists [] [] [] r l a = refl
+smallest-of-lists [] responses (allowance ∷ allowances) r l a = absurd (omega arith)
+smallest-of-lists [] (response ∷ responses) [] r l a = absurd (omega arith)
+smallest-of-lists (core ∷ cores) [] allowances r l a = absurd (omega arith)
+smallest-of-lists (core ∷ cores) (response ∷ responses) [] r l a = absurd (omega arith)
+smallest-of-lists (core ∷ cores) (response ∷ responses) (allowance ∷ allowances) r l a =
+    smallest-of-lists cores responses allowances (omega arith) (omega arith) (min a allowance) ∙ go (ltb allowance a) refl
+  where
+    go : (smaller : Bool) → ltb allowance a ≡ smaller → best ltb (min a allowance) allowances ≡ elim smaller [ true ↦ best ltb allowance allowances | false ↦ best ltb a allowances ]
+    go true smaller = let less = ltb-true allowance a smaller in ap (λ (first : ℕ). best ltb first allowances) (omega arith)
+    go false no-smaller = let no-less = ltb-false allowance a no-smaller in ap (λ (first : ℕ). best ltb first allowances) (omega arith)
+
+-- the system's allowance is the best number of the third list
+pub system-allowance-of-lists : (cores responses allowances : List ℕ) → length responses ≡ length cores → length allowances ≡ length cores → 1 ≤ length cores
+    → systemAllowance (figuresFrom cores responses allowances) ≡ best ltb (getD allowances 0 0) (drop 1 allowances)
+unfolding systemAllowance figuresFrom
+system-allowance-of-lists [] responses allowances r l some = absurd (omega arith)
+system-allowance-of-lists (core ∷ cores) [] allowances r l some = absurd (omega arith)
+system-allowance-of-lists (core ∷ cores) (response ∷ responses) [] r l some = absurd (omega arith)
+system-allowance-of-lists (core ∷ cores) (response ∷ responses) (allowance ∷ allowances) r l some =
+    smallest-of-lists cores responses allowances (omega arith) (omega arith) allowance

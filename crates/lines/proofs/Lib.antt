@@ -1,0 +1,4 @@
+-- Laws of the listing's lines.
+pub mod Digits
+pub mod Written
+pub mod SmallestSoFar
