@@ -3,6 +3,7 @@ pub mod Apart
 pub mod Fit
 pub mod Order
 pub mod Core
+pub mod PlacesOn
 pub mod FiguresFrom
 pub mod Moment
 pub mod Certified

@@ -2,11 +2,12 @@
 use mathlib.Core.Path.{_≡_, refl, sym, ap, _∙_, subst}
 use Prim.Native.Nat.{ℕ, zero, suc, _+_, _≤_, _<_}
 use native.Mathlib.Omega.{arith}
+use native.Mathlib.Nat.{zero-add, add-zero, suc-add}
 use mathlib.Core.Bool.{Bool, true, false}
 use mathlib.Core.Logic.{⊎-elim}
-use mathlib.Core.List.{List, [], _∷_, map, List·Memᴰ, List·Memᴰ·head, List·Memᴰ·tail}
+use mathlib.Core.List.{List, [], _∷_, _++_, map, List·Memᴰ, List·Memᴰ·head, List·Memᴰ·tail}
 use lib.Dec.{T}
-use lib.ListN.{length, getD}
+use lib.ListN.{length, getD, length-map}
 use Rattle.theory.specs.Gather.{upFrom, keep, insert, sort}
 use Rattle.theory.proofs.Tests.{equal-or-not}
 use Rattle.theory.proofs.Each.{All, keep-cases, insert-cases, T-false, all-keep, all-sort}
@@ -84,6 +85,14 @@ unfolding upFrom
 length-upFrom i zero = refl
 length-upFrom i (suc n) = ap suc (length-upFrom (suc i) n)
 
+-- the numbers from i on, in two parts
+pub upFrom-append : (i m n : ℕ) → upFrom i (m + n) ≡ upFrom i m ++ upFrom (i + m) n
+unfolding upFrom
+upFrom-append i zero n = rw (zero-add n, add-zero i)
+upFrom-append i (suc m) n =
+    let next : suc i + m ≡ i + suc m = omega arith in
+    rw (suc-add m n, ← next) (ap (λ (xs : List ℕ). i ∷ xs) (upFrom-append (suc i) m n))
+
 -- with one put in there is one more
 pub length-insert : (precedes : ℕ → ℕ → Bool) (x : ℕ) (xs : List ℕ) → length (insert precedes x xs) ≡ suc (length xs)
 unfolding insert
@@ -96,21 +105,25 @@ unfolding sort
 length-sort precedes [] = refl
 length-sort precedes (x ∷ xs) = length-insert precedes x (sort precedes xs) ∙ ap suc (length-sort precedes xs)
 
--- the kept of the numbers after i are as many as those of the numbers from i on that the test shifted by one keeps
-pub length-keep-shift : (test : ℕ → Bool) (i n : ℕ) → length (keep test (upFrom (suc i) n)) ≡ length (keep (λ x. test (suc x)) (upFrom i n))
+-- the kept of the numbers after i are those of the numbers from i on that the test shifted by one keeps, each one higher
+pub keep-shift : (test : ℕ → Bool) (i n : ℕ) → keep test (upFrom (suc i) n) ≡ map suc (keep (λ x. test (suc x)) (upFrom i n))
 unfolding upFrom keep
-length-keep-shift test i zero = refl
-length-keep-shift test i (suc n) = go (test (suc i)) refl (length-keep-shift test (suc i) n)
+keep-shift test i zero = refl
+keep-shift test i (suc n) = go (test (suc i)) refl (keep-shift test (suc i) n)
   where
     after : List ℕ
     after = upFrom (suc i) n
 
     go :
         (b : Bool) → test (suc i) ≡ b
-        → length (keep test (upFrom (suc (suc i)) n)) ≡ length (keep (λ x. test (suc x)) after)
-        → length (keep test (suc i ∷ upFrom (suc (suc i)) n)) ≡ length (keep (λ x. test (suc x)) (i ∷ after))
-    go true e h = rw (e, keep) (ap suc h)
+        → keep test (upFrom (suc (suc i)) n) ≡ map suc (keep (λ x. test (suc x)) after)
+        → keep test (suc i ∷ upFrom (suc (suc i)) n) ≡ map suc (keep (λ x. test (suc x)) (i ∷ after))
+    go true e h = rw (e, keep) (ap (λ (xs : List ℕ). suc i ∷ xs) h)
     go false e h = rw (e, keep) h
+
+-- so they are as many
+pub length-keep-shift : (test : ℕ → Bool) (i n : ℕ) → length (keep test (upFrom (suc i) n)) ≡ length (keep (λ x. test (suc x)) (upFrom i n))
+length-keep-shift test i n = ap length (keep-shift test i n) ∙ length-map (keep (λ x. test (suc x)) (upFrom i n)) suc
 
 -- place k of what a function gives at the n numbers from i on
 pub at-map-upFrom : {A : Type 0} (f : ℕ → A) (i n k : ℕ) (default : A) → k < n → getD (map f (upFrom i n)) k default ≡ f (i + k)

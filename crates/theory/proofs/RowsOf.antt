@@ -1,7 +1,7 @@
 -- The rows that three lists are: how many, and what stands at a place.
 use mathlib.Core.Path.{_≡_, refl, ap}
 use Prim.Native.Nat.{ℕ, zero, suc, _+_, _<_}
-use mathlib.Core.List.{List, [], _∷_}
+use mathlib.Core.List.{List, [], _∷_, map}
 use native.Mathlib.Omega.{arith}
 use lib.ListN.{length, getD, set}
 use Rattle.theory.specs.Row.{Row, rowAt}
@@ -27,6 +27,14 @@ row-of-lists (c ∷ cs) [] ts d t k = absurd (omega arith)
 row-of-lists (c ∷ cs) (x ∷ ds) [] d t k = absurd (omega arith)
 row-of-lists (c ∷ cs) (x ∷ ds) (y ∷ ts) d t zero = refl
 row-of-lists (c ∷ cs) (x ∷ ds) (y ∷ ts) d t (suc k) = row-of-lists cs ds ts (omega arith) (omega arith) k
+
+-- the numbers at some places are the rows at those places
+pub rows-of-places : (cs ds ts : List ℕ) → length ds ≡ length cs → length ts ≡ length cs
+    → (places : List ℕ)
+    → rowsOf (map (λ h. getD cs h 0) places) (map (λ h. getD ds h 0) places) (map (λ h. getD ts h 0) places) ≡ map (rowAt (rowsOf cs ds ts)) places
+unfolding rowsOf
+rows-of-places cs ds ts d t [] = refl
+rows-of-places cs ds ts d t (h ∷ places) = cc (row-of-lists cs ds ts d t h, rows-of-places cs ds ts d t places)
 
 -- raising row i is raising C of it
 pub raised-rows-of : (cs ds ts : List ℕ) (i a : ℕ) → length ds ≡ length cs → length ts ≡ length cs → i < length cs

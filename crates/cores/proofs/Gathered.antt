@@ -1,0 +1,58 @@
+-- The rows that C, D and T gathered at places are.
+use mathlib.Core.Path.{_≡_, sym, ap, _∙_}
+use Prim.Native.Nat.{ℕ, suc, _<_}
+use mathlib.Core.List.{List, map}
+use lib.Dec.{ltb}
+use lib.ListN.{length, getD, take, set, length-set}
+use Rattle.theory.specs.Row.{Row}
+use Rattle.theory.specs.Gather.{insert}
+use Rattle.theory.specs.Lists.{rowsOf}
+use Rattle.theory.proofs.RowsOf.{rows-of-length, rows-of-places}
+use Rattle.placement.specs.Core.{Table, coreRows, coreOf, placesOn}
+use Rattle.placement.specs.Choice.{joined}
+use Rattle.placement.proofs.PlacesOn.{core-rows-at-places}
+use Rattle.cores.specs.Cores.{heldPlaces, HoldsCores}
+use Rattle.cores.proofs.Held.{held-joined}
+
+-- the rows whose C, D and T are the numbers at places
+abbrev pub rowsAt : List ℕ → List ℕ → List ℕ → List ℕ → List Row
+rowsAt cs ds ts places = rowsOf (map (λ h. getD cs h 0) places) (map (λ h. getD ds h 0) places) (map (λ h. getD ts h 0) places)
+
+module _ (cs ds ts : List ℕ) where
+  -- three arrays that have those numbers at the front
+  pub gathered-fronts :
+      (places executions deadlines periods : List ℕ) (n : ℕ)
+      → n ≡ length places
+      → take (length places) executions ≡ map (λ h. getD cs h 0) places
+      → take (length places) deadlines ≡ map (λ h. getD ds h 0) places
+      → take (length places) periods ≡ map (λ h. getD ts h 0) places
+      → rowsOf (take n executions) (take n deadlines) (take n periods) ≡ rowsAt cs ds ts places
+  gathered-fronts places executions deadlines periods n all c d t = rw (all, c, d, t)
+
+  module _ (as-many-deadlines : length ds ≡ length cs) (as-many-periods : length ts ≡ length cs) (assignment : List ℕ) (one-each : length assignment ≡ length cs) where
+    -- at a core's places they are the core's rows
+    pub gathered-core : (m : ℕ) → rowsAt cs ds ts (placesOn assignment m) ≡ coreRows (rowsOf cs ds ts) assignment m
+    gathered-core m =
+        rows-of-places cs ds ts as-many-deadlines as-many-periods (placesOn assignment m)
+        ∙ sym (core-rows-at-places (rowsOf cs ds ts) assignment m (one-each ∙ sym (rows-of-length cs ds ts as-many-deadlines as-many-periods)))
+
+-- at the places that are held for a core, and place i among them, they are the core's rows with row i
+pub gathered-joined :
+    (cs ds ts : List ℕ)
+    → length ds ≡ length cs
+    → length ts ≡ length cs
+    → (table : Table)
+    → table .rows ≡ rowsOf cs ds ts
+    → {assignment : List ℕ} {rows : List (List ℕ)} {counts : List ℕ}
+    → HoldsCores assignment rows counts
+    → (m : ℕ)
+    → m < 8
+    → (i : ℕ)
+    → i < length assignment
+    → coreOf assignment i ≡ 0
+    → length assignment ≡ length cs
+    → rowsAt cs ds ts (insert ltb i (heldPlaces rows counts m)) ≡ joined table assignment i (suc m)
+gathered-joined cs ds ts as-many-deadlines as-many-periods table same {assignment} {rows} {counts} holds m on-table i in-table on-none one-each =
+    ap (rowsAt cs ds ts) (sym (held-joined holds m on-table i in-table on-none))
+    ∙ gathered-core cs ds ts as-many-deadlines as-many-periods (set assignment i (suc m)) (length-set assignment i (suc m) ∙ one-each) (suc m)
+    ∙ ap (λ rs. coreRows rs (set assignment i (suc m)) (suc m)) (sym same)

@@ -1,0 +1,2 @@
+-- The cores as the code holds them.
+pub mod Cores
