@@ -1,0 +1,3 @@
+-- Laws of the placement as the code makes it.
+pub mod Considered
+pub mod SoFar

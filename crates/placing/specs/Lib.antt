@@ -1,0 +1,3 @@
+-- A placement as the code holds it.
+pub mod Considered
+pub mod Placed
