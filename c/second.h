@@ -1,0 +1,33 @@
+/* The second program's services: document 01 in plain C, written from the document alone. */
+#ifndef SECOND_H
+#define SECOND_H
+
+#include <stddef.h>
+#include <stdint.h>
+
+/* An answer: number 0 and row 0 when accepted, else the refusal's number and row. */
+struct second_answer {
+    uint32_t number;
+    uint32_t row;
+};
+
+/* The table service: table bytes to report bytes. */
+struct second_answer second_table(const uint8_t *table, size_t table_len,
+                                  uint8_t *report, size_t report_len);
+
+/* The set service: lists as big-endian bytes, four per number; allowances by trial of the definition. */
+struct second_answer second_set(const uint8_t *c, size_t c_len, const uint8_t *d, size_t d_len,
+                                const uint8_t *t, size_t t_len,
+                                uint8_t *responses, size_t responses_len,
+                                uint8_t *allowances, size_t allowances_len);
+
+/* The point service: the same lists; allowances by the point formula. */
+struct second_answer second_point(const uint8_t *c, size_t c_len, const uint8_t *d, size_t d_len,
+                                  const uint8_t *t, size_t t_len,
+                                  uint8_t *responses, size_t responses_len,
+                                  uint8_t *allowances, size_t allowances_len);
+
+/* The listing of a table: the number of bytes written, 0 and nothing written when out is too short. */
+size_t second_listing(const uint8_t *table, size_t table_len, uint8_t *out, size_t out_len);
+
+#endif
