@@ -1,13 +1,15 @@
 // The response time and the allowance of each placed row: document 01, "Rank and response time" and "Allowance", core by core.
 ghost use mathlib.Core.Path.{_≡_};
-ghost use Prim.Native.Nat.{_<_};
+ghost use Prim.Native.Nat.{ℕ, _≤_, _<_};
+ghost use mathlib.Core.List.{map};
 ghost use lib.ListN.{length};
 ghost use Rattle.theory.proofs.Each.{All};
-ghost use Rattle.theory.specs.Row.{AllWithin};
+ghost use Rattle.theory.specs.Row.{rowAt, AllWithin};
 ghost use Rattle.theory.specs.Response.{AllMeet};
 ghost use Rattle.theory.specs.Lists.{Shaped, rowsOf};
 ghost use Rattle.figures.specs.Scattered.{scattered};
 ghost use Rattle.figures.specs.Figured.{CoreFigured};
+ghost use Rattle.figures.specs.Placed.{PlacedRows, HasFigures};
 
 // Writes numbers to places of a list.
 fn scatter(list: &mut [u32], places: &[usize], numbers: &[u32])
@@ -41,4 +43,53 @@ fn write_core(
     sets::point_service(c, d, t, &mut core_responses, &mut core_allowances);
     scatter(responses, places, &core_responses[..n]);
     scatter(allowances, places, &core_allowances[..n]);
+}
+
+// Writes the response times and allowances of the rows at these places, which are a core's.
+fn write_at(
+    c: &[u32],
+    d: &[u32],
+    t: &[u32],
+    places: &[usize],
+    responses: &mut [u32],
+    allowances: &mut [u32],
+)
+    requires { ⌜ Shaped (now c) (now d) (now t) × AllWithin (rowsOf (now c) (now d) (now t)) ⌝ }
+    requires { ⌜ (length (now places) ≤ 24) × All (λ h. h < length (now c)) (now places) ⌝ }
+    requires { ⌜ AllMeet (map (rowAt (rowsOf (now c) (now d) (now t))) (now places)) ⌝ }
+    requires { ⌜ (length (now responses) ≡ length (now c)) × (length (now allowances) ≡ length (now c)) ⌝ }
+    ensures { λ _. ⌜ CoreFigured (map (rowAt (rowsOf (now (c .entry)) (now (d .entry)) (now (t .entry)))) (now (places .entry))) (now (places .entry)) (now (responses .entry)) (now (allowances .entry)) (now (responses .exit)) (now (allowances .exit)) ⌝ }
+{
+    let n = places.len();
+    if n == 0 {
+        return;
+    }
+    let cs = cores::gather(c, places);
+    let ds = cores::gather(d, places);
+    let ts = cores::gather(t, places);
+    write_core(&cs[..n], &ds[..n], &ts[..n], places, responses, allowances);
+}
+
+// Writes each placed row's response time and allowance.
+pub fn write_figures(
+    c: &[u32],
+    d: &[u32],
+    t: &[u32],
+    rows: &[[usize; 24]; 8],
+    counts: &[usize; 8],
+    responses: &mut [u32],
+    allowances: &mut [u32],
+)
+    requires { ⌜ Shaped (now c) (now d) (now t) × AllWithin (rowsOf (now c) (now d) (now t)) ⌝ }
+    requires { ⌜ PlacedRows (rowsOf (now c) (now d) (now t)) (now rows) (now counts) ⌝ }
+    requires { ⌜ (length (now responses) ≡ length (now c)) × (length (now allowances) ≡ length (now c)) ⌝ }
+    ensures { λ _. ⌜ ((placed : PlacedRows (rowsOf (now (c .entry)) (now (d .entry)) (now (t .entry))) (now (rows .entry)) (now (counts .entry))) → (i : ℕ) → i < length (now (c .entry)) → HasFigures (rowsOf (now (c .entry)) (now (d .entry)) (now (t .entry))) (placed .assignment) (now (responses .exit)) (now (allowances .exit)) i) ⌝ }
+{
+    let mut m = 0;
+    while m < 8 {
+        let places = rows[m];
+        let count = counts[m];
+        write_at(c, d, t, &places[..count], responses, allowances);
+        m += 1;
+    }
 }

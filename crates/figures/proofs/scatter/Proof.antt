@@ -1,16 +1,14 @@
 -- `scatter` meets its contract. The loop's invariant: what is left, done to the list so far, comes to the whole done to the first list.
 use mathlib.Core.Path.{_≡_, refl, sym, ap, _∙_}
-use Prim.Native.Nat.{ℕ, suc, _-_, _≤_, _<_}
+use Prim.Native.Nat.{ℕ, _-_, _≤_, _<_}
 use native.Mathlib.Omega.{arith}
 use native.Mathlib.Numerals.{add-one}
-use lib.ListN.{length, getD, drop, set, length-set}
-use lib.Seq.{drop-length}
+use borrow.Author.Needs.{needs}
+use lib.ListN.{length, getD, drop, set}
 use Rattle.figures.specs.Scattered.{scattered}
 use Rattle.figures.proofs.Scattered.{scattered-first, scattered-done, next-place-inside}
 use Rattle.figures.proofs.scatter.Statement.{statement}
 use Rattle.figures.proofs.scatter.Tie as tie
-use Rattle.figures.proofs.scatter.Reads as reads
-use Rattle.figures.proofs.scatter.Lts as lts
 
 abbrev Inv-loop : tie.InvT-loop
 Inv-loop list₀ places numbers j₀ list j =
@@ -58,7 +56,7 @@ loop-again c =
     let loop = c .before .before .before .loop in
     let next = set (loop .list) (getD places (loop .j) 0) (getD numbers (loop .j) 0) in (
       omega arith,
-      length-set (loop .list) (getD places (loop .j) 0) (getD numbers (loop .j) 0) ∙ loop .inv .1,
+      search needs,
       ap (λ (n : ℕ). scattered next (drop n places) (drop n numbers)) (add-one (loop .j))
           ∙ sym (scattered-first (loop .list) places numbers (loop .j) (omega arith) (start .pre .0))
           ∙ loop .inv .2,

@@ -1,17 +1,13 @@
 -- `write_core` meets its contract: the point service on rows that all meet gives their response times and allowances.
-use mathlib.Core.Path.{_≡_, sym, _∙_}
+use mathlib.Core.Path.{sym, _∙_}
 use native.Mathlib.Omega.{arith}
 use borrow.Author.Needs.{needs}
-use lib.ListN.{length, take}
+use lib.ListN.{length}
+use lib.Seq.{length-take-le}
 use Rattle.theory.specs.Lists.{rowsOf}
-use Rattle.theory.proofs.RowsOf.{rows-of-length}
 use Rattle.figures.proofs.CoreNumbers.{CoreNumbers, point-service-numbers}
 use Rattle.figures.proofs.write_core.Statement.{statement}
 use Rattle.figures.proofs.write_core.Tie as tie
-use Rattle.figures.proofs.write_core.Reads as reads
-use Rattle.figures.proofs.write_core.Lts as lts
-use Rattle.figures.proofs.scatter.Reads as scatter-reads
-use Rattle.sets.proofs.point_service.Reads as point-service-reads
 
 slice-aggregate-point-service : tie.Need-slice-aggregate-point-service
 slice-aggregate-point-service c = search needs
@@ -22,7 +18,7 @@ slice-aggregate-point-service-2 c = search needs
 point-service-requires : tie.Need-point-service-requires
 point-service-requires c κs = search needs
 
--- the numbers that the point service leaves, and that they are as many as the rows
+-- the numbers that the point service leaves
 numbers :
     (c : tie.After-point-service)
     → let args = c .before .before .before .before .before .before .before .before .before .args in CoreNumbers (rowsOf (args .c .now) (args .d .now) (args .t .now)) (length (args .c .now)) (c .point-service .last .1 .1 .1 .0) (c .point-service .last .1 .1 .1 .1 .0)
@@ -30,35 +26,27 @@ numbers c =
     let start = c .before .before .before .before .before .before .before .before .before in
     point-service-numbers (start .args .c .now) (start .args .d .now) (start .args .t .now) _ _ _ _ _ (start .pre .0 .0) (start .pre .0 .1) (start .pre .0 .2) (start .pre .0 .0 .no-25th) (start .pre .0 .0 .no-25th) (c .point-service .ensures)
 
-as-many : (c : tie.After-point-service) → length (rowsOf (c .before .before .before .before .before .before .before .before .before .args .c .now) (c .before .before .before .before .before .before .before .before .before .args .d .now) (c .before .before .before .before .before .before .before .before .before .args .t .now)) ≡ length (c .before .before .before .before .before .before .before .before .before .args .c .now)
-as-many c =
-    let start = c .before .before .before .before .before .before .before .before .before in
-    rows-of-length (start .args .c .now) (start .args .d .now) (start .args .t .now) (start .pre .0 .0 .as-many-deadlines) (start .pre .0 .0 .as-many-periods)
-
 array-share-prefix-core-responses : tie.Need-array-share-prefix-core-responses
 array-share-prefix-core-responses c = search needs
 
 slice-aggregate-scatter : tie.Need-slice-aggregate-scatter
-slice-aggregate-scatter c = sym (numbers (c .before .before .before .before) .are-responses .one-each ∙ as-many (c .before .before .before .before))
+slice-aggregate-scatter c = sym (length-take-le _ _ (omega arith))
 
 scatter-requires : tie.Need-scatter-requires
 scatter-requires c κs =
     let start = c .before .before .before .before .before .before .before .before .before .before .before .before .before in
-    (numbers (c .before .before .before .before) .are-responses .one-each ∙ as-many (c .before .before .before .before) ∙ sym (start .pre .1 .0), start .pre .1 .1)
+    (length-take-le _ _ (omega arith) ∙ sym (start .pre .1 .0), start .pre .1 .1)
 
 array-share-prefix-core-allowances : tie.Need-array-share-prefix-core-allowances
 array-share-prefix-core-allowances c = search needs
 
 slice-aggregate-scatter-2 : tie.Need-slice-aggregate-scatter-2
-slice-aggregate-scatter-2 c =
-    let service = c .before .before .before .before .before .before .before .before .before in
-    sym (numbers service .are-allowances .one-each ∙ as-many service)
+slice-aggregate-scatter-2 c = sym (length-take-le _ _ (omega arith))
 
 scatter-requires-2 : tie.Need-scatter-requires-2
 scatter-requires-2 c κs =
-    let service = c .before .before .before .before .before .before .before .before .before in
-    let start = service .before .before .before .before .before .before .before .before .before in
-    (numbers service .are-allowances .one-each ∙ as-many service ∙ sym (start .pre .1 .0), start .pre .1 .2)
+    let start = c .before .before .before .before .before .before .before .before .before .before .before .before .before .before .before .before .before .before in
+    (length-take-le _ _ (omega arith) ∙ sym (start .pre .1 .0), start .pre .1 .2)
 
 same-length : tie.Need-same-length
 same-length c = search needs
