@@ -1,0 +1,2 @@
+-- Laws of the certificate as the code holds it.
+pub mod Held
