@@ -1,0 +1,2 @@
+-- What the first bytes of the input tell.
+pub mod Front

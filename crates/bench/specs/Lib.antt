@@ -1,0 +1,2 @@
+-- What the bench program has read.
+pub mod Input
