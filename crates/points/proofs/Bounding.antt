@@ -1,4 +1,4 @@
--- The best quotients after a row's walk are its bounds. Each began at the least 64-bit number, below every quotient, so it is one of them.
+-- The best quotients after a row's walk are its bounds. Each began below every quotient, so it is one of them.
 use mathlib.Core.Path.{_≡_, sym, ap, _∙_, subst}
 use Prim.Native.Nat.{ℕ, _≤_, _<_}
 use mathlib.Core.List.{List, List·Memᴰ}
@@ -19,9 +19,9 @@ use Rattle.climbs.specs.Ranking.{rankingBy, rivalsIn}
 use Rattle.climbs.proofs.ByRank.{few-rivals-in}
 use Rattle.climbs.proofs.Held.{HeldByRank}
 use Rattle.climbs.proofs.Load.{rivalEntries, limits-at, small-rivals}
-use Rattle.walks.specs.Quotients.{quotientOf, NewPoints, AllRaised}
+use Rattle.walks.specs.Quotients.{quotientOf, least, NewPoints, AllRaised}
 use Rattle.points.specs.Bounds.{HoldsBounds}
-use Rattle.points.proofs.SmallLoad.{least, least-below}
+use Rattle.points.proofs.SmallLoad.{least-below}
 use Rattle.points.proofs.Walked.{points-of-rivals, quotient-of-rival, quotient-of-row}
 
 module _ (cs ds ts : List ℕ) (shaped : Shaped cs ds ts) (within : AllWithin (rowsOf cs ds ts)) (k : ℕ) (inside : k < length cs) where

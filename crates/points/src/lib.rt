@@ -30,7 +30,8 @@ pub fn bounds_of(c: &[u32], d: &[u32], t: &[u32], order: &[usize; 24], k: usize)
     let cs = rivals.c;
     let ts = rivals.t;
     let place = rivals.place;
-    let mut best = [-9223372036854775808i64; 25];
+    // Below every quotient, and near enough to 0 for the products of the walk.
+    let mut best = [-50_000_000i64; 25];
     walks::walk_on(n, d[k], 0, c[k], &cs[..n], &ts[..n], &mut best);
     Bounds { best, place, n }
 }

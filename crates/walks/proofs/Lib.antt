@@ -2,6 +2,8 @@
 pub mod Held
 pub mod Rounding
 pub mod Quotients
+pub mod Exceeds
 pub mod Raised
 pub mod NewPoints
 pub mod Level
+pub mod Range

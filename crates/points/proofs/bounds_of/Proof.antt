@@ -6,6 +6,7 @@ use borrow.Author.Needs.{needs}
 use Rattle.demands.specs.Levels.{Small}
 use Rattle.climbs.proofs.Load.{limits-at, small-rivals}
 use Rattle.climbs.proofs.Held.{HeldByRank, ranked-long, ranked-inside, held-by-rank}
+use Rattle.points.proofs.SmallLoad.{begin-in-range}
 use Rattle.points.proofs.Bounding.{bounds-held}
 use Rattle.points.proofs.bounds_of.Statement.{statement}
 use Rattle.points.proofs.bounds_of.Tie as tie
@@ -67,7 +68,7 @@ walk-on-requires c κs =
     let limits = limits-at (lists .c .now) (lists .d .now) (lists .t .now) shaped within (lists .k) (start .pre .1 .1) in
     let small : Small (take (called .rivals-of .result .n) (called .rivals-of .result .c)) (take (called .rivals-of .result .n) (called .rivals-of .result .t)) =
     rw (held called .executions .are, held called .periods .are) (small-rivals (lists .c .now) (lists .d .now) (lists .t .now) shaped within (lists .k)) in
-    (small, (le-of-eq (held called .executions .as-many), ((omega (arith, limits), omega (arith, limits), omega (arith, limits)), omega (arith, small .few))))
+    (small, (le-of-eq (held called .executions .as-many), ((omega (arith, limits), omega (arith, limits), omega (arith, limits)), (omega (arith, small .few), begin-in-range (record { from-least = record { le = tt }; to-million = record { le = tt } }) small))))
 
 returns : tie.Need-returns
 returns c =

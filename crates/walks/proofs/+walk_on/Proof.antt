@@ -9,7 +9,9 @@ use borrow.Fn.Kinds.{In}
 use borrow.Fn.PlainCycle.{Measures, is, falls, and}
 use Rattle.theory.proofs.Ceil.{multiple-below}
 use Rattle.demands.specs.Levels.{Small}
+use Rattle.walks.specs.Quotients.{AllInRange}
 use Rattle.walks.proofs.Level.{nothing-raised, start-raised, time-raised, both-raised}
+use Rattle.walks.proofs.Range.{still-in-range}
 use Rattle.walks.proofs.walk_on.Reads as walk-on
 use Rattle.walks.proofs.walk_on.Kinds as walk-on-kinds
 use Rattle.walks.proofs.+walk_on.Lts-walk_on as walk-on-lts
@@ -38,18 +40,19 @@ calls n = (
 -- what a walk asks for
 abbrev Ready : ℕ → ℕ → ℕ → List ℕ → List ℕ → List ℤ → Type 0
 Ready level time own cs ts best =
-    Small cs ts × ((level ≤ length cs) × (((1 ≤ time) × (time ≤ 1_000_000) × (own ≤ 1_000_000)) × (length cs < length best)))
+    Small cs ts × ((level ≤ length cs) × (((1 ≤ time) × (time ≤ 1_000_000) × (own ≤ 1_000_000)) × ((length cs < length best) × AllInRange cs best)))
 
--- one level down it has that, at a time from 1 up that is not behind, with a list as long
+-- one level down it has that, at a time from 1 up that is not behind, with a list as long and in range
 one-down : (best next : List ℤ) (n level time own : ℕ) (cs ts : List ℕ) (s : ℕ)
     → (level ≡ n) × Ready level time own cs ts best
     → (level ≡ 0 → ⊥)
     → 1 ≤ s
     → s ≤ time
     → length next ≡ length best
+    → AllInRange cs next
     → (level - 1 < n) × Ready (level - 1) s own cs ts next
-one-down best next n level time own cs ts s given not-zero some within as-long =
-    (omega arith, (given .1 .0, (omega arith, ((some, omega arith, given .1 .1 .1 .0 .2), omega arith))))
+one-down best next n level time own cs ts s given not-zero some within as-long in-range =
+    (omega arith, (given .1 .0, (omega arith, ((some, omega arith, given .1 .1 .1 .0 .2), (omega (arith, given .1 .1 .1 .1 .0), in-range)))))
 
 visit-requires : (n : ℕ) → walk-on-lts.Need-visit-requires (calls n) (at n) walk-on.Post
 visit-requires n c κs = let given = c .before .before .before .before .before .pre .1 in (given .0, (given .1 .1 .0, given .1 .1 .1))
@@ -71,21 +74,24 @@ walk-on-requires : (n : ℕ) → walk-on-lts.Need-walk-on-requires (calls n) (at
 walk-on-requires n c κs =
     let start = c .before .before .before .before .before .before .before .before in
     let a = start .args in
-    one-down (a .best .now) (a .best .now) _ _ _ _ _ _ _ (start .pre) (c .before .before .before .before .if2 .left) (start .pre .1 .1 .1 .0 .0) (omega arith) refl
+    one-down (a .best .now) (a .best .now) _ _ _ _ _ _ _ (start .pre) (c .before .before .before .before .if2 .left) (start .pre .1 .1 .1 .0 .0) (omega arith) refl (start .pre .1 .1 .1 .1 .1)
 
 walk-on-requires-2 : (n : ℕ) → walk-on-lts.Need-walk-on-requires-2 (calls n) (at n) walk-on.Post
 walk-on-requires-2 n c κs =
     let start = c .before .before .before .before .before .before .before .before in
     let a = start .args in
     let multiple = c .before .before .last-multiple in
-    one-down (a .best .now) (a .best .now) _ _ _ _ _ _ _ (start .pre) (c .before .before .before .before .if2 .left) (omega (arith, c .before .if3 .left)) (omega (arith, multiple .ensures, multiple-below (getD (a .t .now) (a .level - 1) 0) (a .time))) refl
+    one-down (a .best .now) (a .best .now) _ _ _ _ _ _ _ (start .pre) (c .before .before .before .before .if2 .left) (omega (arith, c .before .if3 .left)) (omega (arith, multiple .ensures, multiple-below (getD (a .t .now) (a .level - 1) 0) (a .time))) refl (start .pre .1 .1 .1 .1 .1)
 
 walk-on-requires-3 : (n : ℕ) → walk-on-lts.Need-walk-on-requires-3 (calls n) (at n) walk-on.Post
 walk-on-requires-3 n c κs =
     let start = c .before .before .before .before .before .before .before .before .before .before .before in
     let a = start .args in
     let first = c .before .before .walk-on2 in
+    let multiple = c .before .before .before .before .before .last-multiple in
+    let by-million : multiple .result ≤ 1_000_000 = omega (arith, multiple .ensures, multiple-below (getD (a .t .now) (a .level - 1) 0) (a .time)) in
     one-down (a .best .now) (first .last .1 .1 .1 .1 .1 .1 .0) _ _ _ _ _ _ _ (start .pre) (c .before .before .before .before .before .before .before .if2 .left) (start .pre .1 .1 .1 .0 .0) (omega arith) (first .kept .1 .1 .1 .1 .1 .1 .0)
+    (still-in-range _ _ _ _ _ _ by-million (a .best .now) (first .last .1 .1 .1 .1 .1 .1 .0) (first .ensures .1) (start .pre .1 .1 .1 .1 .1))
 
 same-length : (n : ℕ) → walk-on-lts.Need-same-length (calls n) (at n) walk-on.Post
 same-length n c = c .before .visit .kept .1 .1 .1 .1 .0
