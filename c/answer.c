@@ -1,4 +1,5 @@
 /* Answers tables in hex from standard input, one a line, with second_table or (argument `listing`) second_listing. */
+/* A line that starts with # is a comment and printed as it is. */
 /* gcc -std=c11 -O2 -Wall -Wextra -Werror answer.c second.c -o answer */
 #include "second.h"
 
@@ -109,6 +110,13 @@ static void print_answer(const struct line *line)
     free(report);
 }
 
+/* Prints a comment line as it is. */
+static void print_comment(const struct line *line)
+{
+    fwrite(line->text, 1, line->used, stdout);
+    putchar('\n');
+}
+
 /* Prints the listing. */
 static void print_listing(const struct line *line)
 {
@@ -129,6 +137,10 @@ int main(int argc, char **argv)
         return 2;
     }
     for (unsigned long number = 1; read_line(&line); number++) {
+        if (line.text[0] == '#') {
+            print_comment(&line);
+            continue;
+        }
         take_line(&line, number);
         if (listing)
             print_listing(&line);
