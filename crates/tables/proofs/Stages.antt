@@ -18,7 +18,7 @@ use Rattle.reading.specs.Held.{Held, heldTable, IsRead}
 use Rattle.reading.proofs.Answers.{read-accepted}
 use Rattle.reading.proofs.HeldRows.{held-rows-many}
 use Rattle.certificates.specs.declared.Certificate.{Certificate}
-use Rattle.certificates.specs.Held.{IsHeld, heldFigures, certified, none-takes}
+use Rattle.certificates.specs.Held.{Long, IsHeld, heldFigures, certified, none-takes}
 use Rattle.listing.specs.Listing.{refusal}
 use Rattle.service.specs.Table.{TableAnswered, Listed}
 
@@ -55,23 +55,22 @@ held-shaped read held within =
       as-many-periods = t ∙ sym c;
     }
 
--- the figures of the table's rows, at the fronts of arrays that have them all
+-- the figures of the table's rows, at the fronts of arrays of 24
 pub record FiguresHeld (read : Read) (certificate : Certificate) : Type 0 where
   pub is-certified : Certified allowanceFit (heldTable read) (heldFigures (read .n) certificate)
-  pub cores-inside : read .n ≤ length (certificate .core)
-  pub responses-inside : read .n ≤ length (certificate .response)
-  pub allowances-inside : read .n ≤ length (certificate .allowance)
+  pub long : Long certificate
+  pub few : read .n ≤ 24
 
 -- each front has a figure for each row
 module _ {read : Read} {certificate : Certificate} (figures : FiguresHeld read certificate) where
   pub cores-front : length (take (read .n) (certificate .core)) ≡ read .n
-  cores-front = length-take-le (read .n) (certificate .core) (figures .cores-inside)
+  cores-front = length-take-le (read .n) (certificate .core) (omega (arith, figures .few, figures .long .core-long))
 
   pub responses-front : length (take (read .n) (certificate .response)) ≡ read .n
-  responses-front = length-take-le (read .n) (certificate .response) (figures .responses-inside)
+  responses-front = length-take-le (read .n) (certificate .response) (omega (arith, figures .few, figures .long .response-long))
 
   pub allowances-front : length (take (read .n) (certificate .allowance)) ≡ read .n
-  allowances-front = length-take-le (read .n) (certificate .allowance) (figures .allowances-inside)
+  allowances-front = length-take-le (read .n) (certificate .allowance) (omega (arith, figures .few, figures .long .allowance-long))
 
 module _ {bytes : List ℕ} {read : Read} (table-read : TableRead bytes read) {certificate : Certificate} where
   -- where the answer to certifying is no refusal, there are the figures
@@ -79,9 +78,8 @@ module _ {bytes : List ℕ} {read : Read} (table-read : TableRead bytes read) {c
   was-certified (certified accepted is-certified long) none =
       record {
         is-certified = subst (λ (n : ℕ). Certified allowanceFit (heldTable read) (heldFigures n certificate)) (table-read .many) is-certified;
-        cores-inside = omega (arith, long .core-long, table-read .held .no-25th-row);
-        responses-inside = omega (arith, long .response-long, table-read .held .no-25th-row);
-        allowances-inside = omega (arith, long .allowance-long, table-read .held .no-25th-row);
+        long = long;
+        few = table-read .held .no-25th-row;
       }
   was-certified (none-takes i refuses stop) none = absurd (let six : numberOf (certificate .answer) ≡ 6 = ap numberOf refuses in omega arith)
 

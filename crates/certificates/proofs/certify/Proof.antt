@@ -32,7 +32,7 @@ place-rows-requires c κs =
     let start = c .before .before .before .before .before .before in
     let n = length (start .args .c .now) in
     let zeros = take-zeros n 24 (start .pre .0 .0 .no-25th) in
-    (start .pre .0, (start .pre .1, (zeros, subst (λ (assignment : List ℕ). HoldsCores assignment (replicate 8 (replicate 24 0)) (replicate 8 0)) (sym zeros) (held-none n (replicate 8 (replicate 24 0)) refl))))
+    (start .pre .0, (omega (arith, start .pre .1), (zeros, subst (λ (assignment : List ℕ). HoldsCores assignment (replicate 8 (replicate 24 0)) (replicate 8 0)) (sym zeros) (held-none n (replicate 8 (replicate 24 0)) refl))))
 
 number-of-requires : tie.Need-number-of-requires
 number-of-requires c κs = search needs

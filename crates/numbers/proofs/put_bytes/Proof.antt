@@ -43,7 +43,7 @@ loop-again c =
     let inv = c .before .before .loop .inv in
     let byte = getD part j 0 in (
       omega arith,
-      length-set (c .before .before .loop .bytes) (at + j) byte ∙ inv .1,
+      length-set (c .before .before .loop .bytes) _ _ ∙ inv .1,
       ap (λ (l : List ℕ). set l (at + j) byte) (inv .2)
           ∙ paste-suc bytes at part j 0 (omega (arith, start .pre)) (omega arith)
           ∙ ap (λ (n : ℕ). paste bytes at part n) (sym (add-one j)),

@@ -21,16 +21,16 @@ inside c = omega (arith, c .write-lines .ensures .1, c .write-lines .kept .1 .0)
 
 returns : tie.Need-returns
 returns c =
-    let start = c .before .before .before .before .before .before in lines-too-long (start .args .table .now) (start .args .listing .now) (c .before .before .write-lines .last .1 .0) (c .before .before .write-lines .result) (c .before .before .write-lines .ensures .0) (inside (c .before .before)) (c .if1 .taken)
+    let start = c .before .before .before .before .before .before in lines-too-long (start .args .table .now) (start .args .listing .now) (c .before .before .write-lines .last .1 .0) (c .before .before .write-lines .result) (c .before .before .write-lines .ensures .0) (inside (c .before .before)) (omega (arith, c .if1 .taken))
 
 array-share-prefix-text : tie.Need-array-share-prefix-text
 array-share-prefix-text c = search needs
 
 slice-aggregate-put-bytes : tie.Need-slice-aggregate-put-bytes
-slice-aggregate-put-bytes c = sym (length-take-le (c .before .before .before .before .write-lines .result) (c .before .before .before .before .write-lines .last .1 .0) (inside (c .before .before .before .before)))
+slice-aggregate-put-bytes c = sym (length-take-le _ _ (array-share-prefix-text (c .before)))
 
 put-bytes-requires : tie.Need-put-bytes-requires
-put-bytes-requires c κs = omega (arith, length-take-le (c .before .before .before .before .write-lines .result) (c .before .before .before .before .write-lines .last .1 .0) (inside (c .before .before .before .before)))
+put-bytes-requires c κs = omega (arith, slice-aggregate-put-bytes c)
 
 same-length : tie.Need-same-length
 same-length c = search needs

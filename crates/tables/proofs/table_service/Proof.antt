@@ -5,6 +5,7 @@ use mathlib.Core.List.{List, [], _∷_, _++_, flatMap}
 use native.Mathlib.Omega.{arith}
 use borrow.Author.Needs.{needs}
 use lib.ListN.{length, take}
+use lib.Seq.{length-take-le}
 use Rattle.theory.specs.declared.Answer.the-variants.{Accepted}
 use Rattle.theory.specs.Lists.{filled}
 use Rattle.placement.specs.Choice.{allowanceFit}
@@ -15,7 +16,7 @@ use Rattle.reading.proofs.Answers.{read-refused}
 use Rattle.certificates.specs.Held.{heldFigures}
 use Rattle.service.specs.Table.{TableAnswered}
 use Rattle.tables.proofs.Stages.{TableRead, table-was-read, FiguresHeld, cores-front, responses-front, allowances-front, was-certified, refusal-answered}
-use Rattle.tables.proofs.Reported.{records-front-length, report-of-records, core-is-byte}
+use Rattle.tables.proofs.Reported.{table-length, report-of-records, core-is-byte}
 use Rattle.tables.proofs.table_service.Statement.{statement}
 use Rattle.tables.proofs.table_service.Tie as tie
 
@@ -66,30 +67,30 @@ add-end c = search needs
 figures : (c : tie.Else3) → FiguresHeld (c .before .before .before .before .before .before .read-table .result) (c .before .before .certificate-of .result)
 figures c = was-certified (read (c .before .before .before .before)) (c .before .before .certificate-of .ensures) (sym (c .before .number-of2 .ensures) ∙ c .if3 .left)
 
--- its records
-records : (c : tie.Else3) → let n = c .before .before .before .before .before .before .read-table .result .n in length (take (2 + 13 * n) (c .before .before .before .before .before .before .before .before .before .args .table .now)) ≡ 2 + 13 * n
-records c = records-front-length (c .before .before .before .before .before .before .before .before .before .args .table .now) (heldTable (c .before .before .before .before .before .before .read-table .result)) _ (below (c .before .before .before .before)) (read (c .before .before .before .before) .is-table) (read (c .before .before .before .before) .many)
+-- the length of its bytes
+long : (c : tie.Else3) → length (c .before .before .before .before .before .before .before .before .before .args .table .now) ≡ 4 + 13 * c .before .before .before .before .before .before .read-table .result .n
+long c = table-length (c .before .before .before .before .before .before .before .before .before .args .table .now) (heldTable (c .before .before .before .before .before .before .read-table .result)) _ (below (c .before .before .before .before)) (read (c .before .before .before .before) .is-table) (read (c .before .before .before .before) .many)
 
 slice-aggregate-write-report : tie.Need-slice-aggregate-write-report
-slice-aggregate-write-report c = sym (records (c .before .before .before .before))
+slice-aggregate-write-report c = sym (length-take-le _ _ (omega (arith, long (c .before .before .before .before))))
 
 array-share-prefix-core : tie.Need-array-share-prefix-core
-array-share-prefix-core c = figures (c .before .before .before .before) .cores-inside
+array-share-prefix-core c = let figured = figures (c .before .before .before .before) in omega (arith, figured .few, figured .long .core-long)
 
 slice-aggregate-write-report-2 : tie.Need-slice-aggregate-write-report-2
-slice-aggregate-write-report-2 c = sym (cores-front (figures (c .before .before .before .before .before)))
+slice-aggregate-write-report-2 c = sym (length-take-le _ _ (array-share-prefix-core (c .before)))
 
 array-share-prefix-response : tie.Need-array-share-prefix-response
-array-share-prefix-response c = figures (c .before .before .before .before .before) .responses-inside
+array-share-prefix-response c = let figured = figures (c .before .before .before .before .before) in omega (arith, figured .few, figured .long .response-long)
 
 slice-aggregate-write-report-3 : tie.Need-slice-aggregate-write-report-3
-slice-aggregate-write-report-3 c = sym (responses-front (figures (c .before .before .before .before .before .before)))
+slice-aggregate-write-report-3 c = sym (length-take-le _ _ (array-share-prefix-response (c .before)))
 
 array-share-prefix-allowance : tie.Need-array-share-prefix-allowance
-array-share-prefix-allowance c = figures (c .before .before .before .before .before .before) .allowances-inside
+array-share-prefix-allowance c = let figured = figures (c .before .before .before .before .before .before) in omega (arith, figured .few, figured .long .allowance-long)
 
 slice-aggregate-write-report-4 : tie.Need-slice-aggregate-write-report-4
-slice-aggregate-write-report-4 c = sym (allowances-front (figures (c .before .before .before .before .before .before .before)))
+slice-aggregate-write-report-4 c = sym (length-take-le _ _ (array-share-prefix-allowance (c .before)))
 
 write-report-requires : tie.Need-write-report-requires
 write-report-requires c κs =
@@ -98,13 +99,14 @@ write-report-requires c κs =
     let was-read = read (else .before .before .before .before) in
     let certificate = else .before .before .certificate-of .result in
     let n = else .before .before .before .before .before .before .read-table .result .n in
-    let cores = cores-front figured in
-    let responses = responses-front figured ∙ sym cores in
-    let allowances = allowances-front figured ∙ sym cores in (
-      (omega (arith, cores, was-read .held .no-25th-row), responses, allowances),
+    let records = slice-aggregate-write-report (c .before .before .before .before) in
+    let cores = slice-aggregate-write-report-2 (c .before .before .before) in
+    let responses = slice-aggregate-write-report-3 (c .before .before) in
+    let allowances = slice-aggregate-write-report-4 (c .before) in (
+      (omega (arith, cores, was-read .held .no-25th-row), omega (arith, responses, cores), omega (arith, allowances, cores)),
       (
-        omega (arith, records else, cores, else .before .before .before .if2 .left),
-        core-is-byte (heldTable (else .before .before .before .before .before .before .read-table .result)) (take n (certificate .core)) (take n (certificate .response)) (take n (certificate .allowance)) (was-read .within .no-9th-core) (cores ∙ sym (was-read .many)) responses allowances (figured .is-certified),
+        omega (arith, records, cores, else .before .before .before .if2 .left),
+        core-is-byte (heldTable (else .before .before .before .before .before .before .read-table .result)) (take n (certificate .core)) (take n (certificate .response)) (take n (certificate .allowance)) (was-read .within .no-9th-core) (cores-front figured ∙ sym (was-read .many)) (responses-front figured ∙ sym (cores-front figured)) (allowances-front figured ∙ sym (cores-front figured)) (figured .is-certified),
       ),
     )
 
@@ -115,15 +117,20 @@ returns-4 : tie.Need-returns-4
 returns-4 c =
     let else = c .before .before .before .before .before .before .before .before .before .before .before in
     let start = c .before .before .before .before .before .before .before .before .before .before .before .before .before .before .before .before .before .before .before .before in
+    let table = start .args .table .now in
+    let report = start .args .report .now in
     let was-read = read (else .before .before .before .before) in
     let result = else .before .before .before .before .before .before .read-table .result in
     let figured = figures else in
-    let all = heldFigures (result .n) (else .before .before .certificate-of .result) in
-    let written : c .before .before .write-report .last .1 .1 .1 .1 .0 ≡ filled (reportBytes (heldTable result) all) (start .args .report .now) =
-    c .before .before .write-report .ensures
-    ∙ ap (λ (count : ℕ). filled (take (2 + 13 * result .n) (start .args .table .now) ++ (flatMap figuresRecord all ++ (4 ∷ count ∷ []))) (start .args .report .now)) (cores-front figured)
-    ∙ ap (λ (bytes : List ℕ). filled bytes (start .args .report .now)) (report-of-records (start .args .table .now) (heldTable result) all (result .n) (below (else .before .before .before .before)) (was-read .is-table) (was-read .many)) in
-    subst (TableAnswered allowanceFit (start .args .table .now) (start .args .report .now) Accepted) (sym written)
+    let certificate = else .before .before .certificate-of .result in
+    let all = heldFigures (result .n) certificate in
+    let after = c .before .before .write-report .last .1 .1 .1 .1 .0 in
+    let put : after ≡ filled (take (2 + 13 * result .n) table ++ (flatMap figuresRecord all ++ (4 ∷ length (take (result .n) (certificate .core)) ∷ []))) report = c .before .before .write-report .ensures in
+    let written : after ≡ filled (reportBytes (heldTable result) all) report =
+    put
+    ∙ ap (λ (count : ℕ). filled (take (2 + 13 * result .n) table ++ (flatMap figuresRecord all ++ (4 ∷ count ∷ []))) report) (cores-front figured)
+    ∙ ap (λ (bytes : List ℕ). filled bytes report) (report-of-records table (heldTable result) all (result .n) (below (else .before .before .before .before)) (was-read .is-table) (was-read .many)) in
+    subst (TableAnswered allowanceFit table report Accepted) (sym written)
     (TableAnswered.accepted (heldTable result) all (was-read .is-table) (omega (arith, was-read .many, else .before .before .before .if2 .left)) (figured .is-certified))
 
 pub table-service-spec : {M : Type 1} → statement M

@@ -2,6 +2,7 @@
 use mathlib.Core.Path.{sym, subst, _∙_}
 use native.Mathlib.Omega.{arith}
 use borrow.Author.Needs.{needs}
+use lib.Seq.{length-take-le}
 use Rattle.placement.specs.Choice.{allowanceFit}
 use Rattle.reading.proofs.Answers.{read-refused}
 use Rattle.service.specs.Table.{Listed}
@@ -54,22 +55,22 @@ figures : (c : tie.Else2) → FiguresHeld (c .before .before .before .before .be
 figures c = was-certified (read (c .before .before .before)) (c .before .before .certificate-of .ensures) (sym (c .before .number-of2 .ensures) ∙ c .if2 .left)
 
 array-share-prefix-core : tie.Need-array-share-prefix-core
-array-share-prefix-core c = figures (c .before .before .before .before) .cores-inside
+array-share-prefix-core c = let figured = figures (c .before .before .before .before) in omega (arith, figured .few, figured .long .core-long)
 
 slice-aggregate-write-listing : tie.Need-slice-aggregate-write-listing
-slice-aggregate-write-listing c = sym (cores-front (figures (c .before .before .before .before .before)))
+slice-aggregate-write-listing c = sym (length-take-le _ _ (array-share-prefix-core (c .before)))
 
 array-share-prefix-response : tie.Need-array-share-prefix-response
-array-share-prefix-response c = figures (c .before .before .before .before .before) .responses-inside
+array-share-prefix-response c = let figured = figures (c .before .before .before .before .before) in omega (arith, figured .few, figured .long .response-long)
 
 slice-aggregate-write-listing-2 : tie.Need-slice-aggregate-write-listing-2
-slice-aggregate-write-listing-2 c = sym (responses-front (figures (c .before .before .before .before .before .before)))
+slice-aggregate-write-listing-2 c = sym (length-take-le _ _ (array-share-prefix-response (c .before)))
 
 array-share-prefix-allowance : tie.Need-array-share-prefix-allowance
-array-share-prefix-allowance c = figures (c .before .before .before .before .before .before) .allowances-inside
+array-share-prefix-allowance c = let figured = figures (c .before .before .before .before .before .before) in omega (arith, figured .few, figured .long .allowance-long)
 
 slice-aggregate-write-listing-3 : tie.Need-slice-aggregate-write-listing-3
-slice-aggregate-write-listing-3 c = sym (allowances-front (figures (c .before .before .before .before .before .before .before)))
+slice-aggregate-write-listing-3 c = sym (length-take-le _ _ (array-share-prefix-allowance (c .before)))
 
 write-listing-requires : tie.Need-write-listing-requires
 write-listing-requires c κs =
