@@ -3,7 +3,6 @@ use mathlib.Core.Path.{_≡_, refl, ap}
 use Prim.Native.Nat.{ℕ}
 use mathlib.Core.List.{List}
 use Rattle.theory.specs.declared.Answer.{Answer}
-use Rattle.theory.specs.declared.Answer.the-variants.{RowsOutOfRange}
 use Rattle.theory.specs.Row.{Row}
 use Rattle.theory.specs.Lists.{filled}
 use Rattle.theory.proofs.Lists.{Same, answered-unique}

@@ -2,6 +2,7 @@
 pub mod Number
 pub mod ReadingRecord
 pub mod Reading
+pub mod Refused
 pub mod ReadingBack
 pub mod Lengths
 pub mod Report
