@@ -1,2 +1,3 @@
 -- Laws of the certificate as the code holds it.
 pub mod Held
+pub mod Promises
