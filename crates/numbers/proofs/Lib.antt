@@ -1,2 +1,4 @@
--- Laws of four bytes within a byte string.
+-- Laws of numbers within a byte string.
 pub mod FourBytes
+pub mod Written
+pub mod Lists

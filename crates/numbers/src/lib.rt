@@ -1,9 +1,11 @@
-// Bytes and numbers of four bytes, read from a byte string and written into one: document 01, "Records".
+// Bytes, numbers of four bytes and lists of them, read from a byte string and written into one: document 01, "Records", and lists passed as bytes.
 ghost use mathlib.Core.Path.{_≡_};
-ghost use Prim.Native.Nat.{_+_, _≤_, _<_};
+ghost use Prim.Native.Nat.{_+_, _*_, _/_, _≤_, _<_};
 ghost use mathlib.Core.List.{_++_};
 ghost use lib.ListN.{length, take, drop};
+ghost use Rattle.theory.specs.Lists.{filled};
 ghost use Rattle.records.specs.Number.{numberAt, fourBytes};
+ghost use Rattle.records.specs.ListBytes.{numbersIn, bytesOf};
 
 fn widened(byte: u8) -> u32
     ensures { λ r. ⌜ (r ≡ byte) × (r < 256) ⌝ }
@@ -42,6 +44,33 @@ pub fn put_bytes(bytes: &mut [u8], at: usize, part: &[u8])
     let mut j = 0;
     while j < part.len() {
         bytes[at + j] = part[j];
+        j += 1;
+    }
+}
+
+// The numbers that bytes are, at the front of an array.
+pub fn read_numbers(bytes: &[u8]) -> [u32; 24]
+    requires { ⌜ length (now bytes) ≤ 96 ⌝ }
+    ensures { λ r. ⌜ take (length (now (bytes .entry)) / 4) r ≡ numbersIn (now (bytes .entry)) ⌝ }
+    ensures { λ r. ⌜ length r ≡ 24 ⌝ }
+{
+    let mut numbers = [0u32; 24];
+    let mut j = 0;
+    while j < bytes.len() / 4 {
+        numbers[j] = number_at(bytes, 4 * j);
+        j += 1;
+    }
+    numbers
+}
+
+// Fills the front of a byte string with the bytes of numbers.
+pub fn put_numbers(bytes: &mut [u8], numbers: &[u32])
+    requires { ⌜ 4 * length (now numbers) ≤ length (now bytes) ⌝ }
+    ensures { λ _. ⌜ now (bytes .exit) ≡ filled (bytesOf (now (numbers .entry))) (now (bytes .entry)) ⌝ }
+{
+    let mut j = 0;
+    while j < numbers.len() {
+        put_number(bytes, 4 * j, numbers[j]);
         j += 1;
     }
 }

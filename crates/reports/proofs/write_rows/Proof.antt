@@ -6,7 +6,7 @@ use native.Mathlib.Omega.{arith}
 use lib.ListN.{length}
 use lib.Seq.{paste-zero}
 use Rattle.records.specs.Number.{fourBytes}
-use Rattle.reports.proofs.Written.{written}
+use Rattle.numbers.proofs.Written.{written}
 use Rattle.reports.proofs.FirstRows.{firstRecords, records-length, row-written, all-written}
 use Rattle.reports.proofs.write_rows.Statement.{statement}
 use Rattle.reports.proofs.write_rows.Tie as tie

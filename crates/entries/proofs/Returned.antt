@@ -1,0 +1,79 @@
+-- Each entry's promise determines the number, the row and every lent byte; the set entry and the point entry promise the same.
+use mathlib.Core.Path.{_≡_, sym, ap, _∙_}
+use Prim.Native.Nat.{ℕ}
+use mathlib.Core.Logic.{_↔_}
+use mathlib.Core.List.{List}
+use lib.IntN.{pos, natAbs}
+use Rattle.theory.specs.declared.Answer.{Answer}
+use Rattle.theory.specs.Answer.{numberOf, rowOf}
+use Rattle.theory.specs.Row.{Row}
+use Rattle.theory.specs.Allowance.{IsAllowance}
+use Rattle.theory.specs.Points.{IsPointAllowance}
+use Rattle.theory.specs.Lists.{Answered}
+use Rattle.theory.proofs.Allowance.{allowance-unique}
+use Rattle.theory.proofs.Bound.{point-allowance-unique}
+use Rattle.theory.proofs.Lists.{services-agree}
+use Rattle.placement.specs.Choice.{allowanceFit}
+use Rattle.placement.proofs.Fit.{allowance-fit-is-rule}
+use Rattle.records.specs.ListBytes.{numbersIn, BytesAnswered, not-fours, as-numbers}
+use Rattle.records.proofs.BytesAnswered.{bytes-answered-unique}
+use Rattle.service.proofs.Table.{table-answered-unique}
+use Rattle.entries.specs.Entry.{Returned, TableReturned, ListsReturned, SetReturned, PointReturned}
+
+-- one answer has one number and one row
+same-answer-returned : {P Q : Answer → Type 0} {number other row other-row : ℕ} (p : Returned P number row) (q : Returned Q other other-row) → p .answer ≡ q .answer → (number ≡ other) × (row ≡ other-row)
+same-answer-returned p q same = (p .its-number ∙ ap numberOf same ∙ sym (q .its-number), p .its-row ∙ ap rowOf same ∙ sym (q .its-row))
+
+-- THE TABLE ENTRY'S RESULT IS DETERMINED
+pub table-returned-unique : {table report : List ℕ} {number other row other-row : ℕ} {first second : List ℕ}
+    → TableReturned table report number row first
+    → TableReturned table report other other-row second
+    → (number ≡ other) × (row ≡ other-row) × (first ≡ second)
+table-returned-unique {table} {report} p q =
+    let same = table-answered-unique allowanceFit allowance-fit-is-rule table report (p .answered) (q .answered) in
+    let returned = same-answer-returned p q (same .same-answer) in
+    (returned .0, returned .1, same .same-report)
+
+module _ {cs ds ts responses allowances : List ℕ} {number other row other-row : ℕ} {rs ss ls ms : List ℕ} where
+  -- so is that of an entry on lists, for any meaning of an allowance that determines it
+  lists-returned-unique : (Allowance : List Row → ℕ → ℕ → Type 0)
+      → ((rows : List Row) (i a b : ℕ) → Allowance rows i a → Allowance rows i b → a ≡ b)
+      → ListsReturned Allowance cs ds ts responses allowances number row rs ls
+      → ListsReturned Allowance cs ds ts responses allowances other other-row ss ms
+      → (number ≡ other) × (row ≡ other-row) × (rs ≡ ss) × (ls ≡ ms)
+  lists-returned-unique Allowance determined p q =
+      let same = bytes-answered-unique Allowance determined cs ds ts responses allowances (p .answered) (q .answered) in
+      let returned = same-answer-returned p q (same .same-answer) in
+      (returned .0, returned .1, same .same-responses, same .same-allowances)
+
+  -- THE SET ENTRY'S RESULT IS DETERMINED
+  pub set-returned-unique : SetReturned cs ds ts responses allowances number row rs ls → SetReturned cs ds ts responses allowances other other-row ss ms
+      → (number ≡ other) × (row ≡ other-row) × (rs ≡ ss) × (ls ≡ ms)
+  set-returned-unique = lists-returned-unique IsAllowance allowance-unique
+
+  -- THE POINT ENTRY'S RESULT IS DETERMINED
+  pub point-returned-unique : PointReturned cs ds ts responses allowances number row rs ls → PointReturned cs ds ts responses allowances other other-row ss ms
+      → (number ≡ other) × (row ≡ other-row) × (rs ≡ ss) × (ls ≡ ms)
+  point-returned-unique = lists-returned-unique (λ rows i a. IsPointAllowance rows i (pos a)) (λ rows i a b p q. ap natAbs (point-allowance-unique rows i (pos a) (pos b) p q))
+
+-- where one meaning of an allowance has the answers of another on numbers, it has them on bytes
+module _
+    (First Second : List Row → ℕ → ℕ → Type 0)
+    (cs ds ts responses allowances : List ℕ)
+    (carries : (answer : Answer) (Rs As : List ℕ)
+    → Answered First (numbersIn cs) (numbersIn ds) (numbersIn ts) (numbersIn responses) (numbersIn allowances) answer Rs As
+    → Answered Second (numbersIn cs) (numbersIn ds) (numbersIn ts) (numbersIn responses) (numbersIn allowances) answer Rs As) where
+  bytes-carry : {answer : Answer} {rs ls : List ℕ} → BytesAnswered First cs ds ts responses allowances answer rs ls → BytesAnswered Second cs ds ts responses allowances answer rs ls
+  bytes-carry (not-fours n) = not-fours n
+  bytes-carry (as-numbers answer Rs As fours p) = as-numbers answer Rs As fours (carries answer Rs As p)
+
+  returned-carry : {number row : ℕ} {rs ls : List ℕ} → ListsReturned First cs ds ts responses allowances number row rs ls → ListsReturned Second cs ds ts responses allowances number row rs ls
+  returned-carry p = record { answer = p .answer; its-number = p .its-number; its-row = p .its-row; answered = bytes-carry (p .answered) }
+
+-- DEMAND 3 ON THE ENTRIES: what one of the two on lists promises the other does
+pub entries-agree : (cs ds ts responses allowances : List ℕ) {number row : ℕ} {rs ls : List ℕ}
+    → SetReturned cs ds ts responses allowances number row rs ls ↔ PointReturned cs ds ts responses allowances number row rs ls
+entries-agree cs ds ts responses allowances = (
+  returned-carry IsAllowance (λ rows i a. IsPointAllowance rows i (pos a)) cs ds ts responses allowances (λ answer Rs As p. services-agree (numbersIn cs) (numbersIn ds) (numbersIn ts) (numbersIn responses) (numbersIn allowances) .0 p),
+  returned-carry (λ rows i a. IsPointAllowance rows i (pos a)) IsAllowance cs ds ts responses allowances (λ answer Rs As p. services-agree (numbersIn cs) (numbersIn ds) (numbersIn ts) (numbersIn responses) (numbersIn allowances) .1 p),
+)

@@ -1,0 +1,163 @@
+// The three services for the front end in C, on numbers and byte strings: document 01, "What the certificate covers". A byte string is a pointer and a length in C;
+// what C owes is that there are so many bytes, and that a lent byte string overlaps no other.
+ghost use mathlib.Core.Path.{_≡_};
+ghost use mathlib.Core.Bool.{true};
+ghost use mathlib.Core.Logic.{_↔_};
+ghost use Prim.Native.Nat.{_/_, min};
+ghost use Rattle.theory.specs.Answer.{numberOf, rowOf};
+ghost use Rattle.theory.specs.Lists.{Answered};
+ghost use Rattle.records.specs.ListBytes.{BytesAnswered};
+ghost use Rattle.entries.specs.Lists.{RowBytes, allowanceBy, AnsweredInBytes};
+ghost use Rattle.entries.specs.Entry.{TableReturned, SetReturned, PointReturned};
+use theory::Answer;
+
+// An answer as C takes it: its number and its row.
+#[repr(C)]
+pub struct EntryAnswer {
+    pub number: u32,
+    pub row: u32,
+}
+
+// How allowances are found.
+enum AllowancesBy {
+    Trial,
+    Points,
+}
+
+fn entry_answer(answer: Answer) -> EntryAnswer
+    ensures { λ r. ⌜ (r .number ≡ numberOf answer) × (r .row ≡ rowOf answer) ⌝ }
+{
+    EntryAnswer {
+        number: refusals::number_of(answer),
+        row: refusals::row_of(answer),
+    }
+}
+
+// Whether three byte strings are lists of one length, 1 to 24 numbers of four bytes.
+fn are_rows(c: &[u8], d: &[u8], t: &[u8]) -> bool
+    ensures { λ r. ⌜ (r ≡ true) ↔ RowBytes (now (c .entry)) (now (d .entry)) (now (t .entry)) ⌝ }
+{
+    if c.len() % 4 != 0 {
+        return false;
+    }
+    if d.len() != c.len() {
+        return false;
+    }
+    if t.len() != c.len() {
+        return false;
+    }
+    if c.len() < 4 {
+        return false;
+    }
+    c.len() <= 96
+}
+
+// How many numbers an answer list of so many bytes has, no more than there can be rows.
+fn room(bytes: usize) -> usize
+    ensures { λ r. ⌜ r ≡ min 24 (bytes / 4) ⌝ }
+{
+    let numbers = bytes / 4;
+    if 24 < numbers {
+        return 24;
+    }
+    numbers
+}
+
+// The list service that finds allowances so.
+fn answer_lists(
+    by: AllowancesBy,
+    c: &[u32],
+    d: &[u32],
+    t: &[u32],
+    responses: &mut [u32],
+    allowances: &mut [u32],
+) -> Answer
+    ensures { λ r. ⌜ Answered (allowanceBy by) (now (c .entry)) (now (d .entry)) (now (t .entry)) (now (responses .entry)) (now (allowances .entry)) r (now (responses .exit)) (now (allowances .exit)) ⌝ }
+{
+    match by {
+        AllowancesBy::Trial => sets::set_service(c, d, t, responses, allowances),
+        AllowancesBy::Points => sets::point_service(c, d, t, responses, allowances),
+    }
+}
+
+// The same with the answer lists as bytes: the service fills arrays, and their numbers are written only when it accepts.
+fn answer_in_bytes(
+    by: AllowancesBy,
+    c: &[u32],
+    d: &[u32],
+    t: &[u32],
+    responses: &mut [u8],
+    allowances: &mut [u8],
+) -> Answer
+    ensures { λ r. ⌜ AnsweredInBytes (allowanceBy by) (now (c .entry)) (now (d .entry)) (now (t .entry)) (now (responses .entry)) (now (allowances .entry)) r (now (responses .exit)) (now (allowances .exit)) ⌝ }
+{
+    let mut response = [0u32; 24];
+    let mut allowance = [0u32; 24];
+    let r = room(responses.len());
+    let a = room(allowances.len());
+    let answer = answer_lists(by, c, d, t, &mut response[..r], &mut allowance[..a]);
+    if refusals::number_of(answer) != 0 {
+        return answer;
+    }
+    let n = c.len();
+    numbers::put_numbers(responses, &response[..n]);
+    numbers::put_numbers(allowances, &allowance[..n]);
+    Answer::Accepted
+}
+
+// The same with all lists as bytes.
+fn answer_bytes(
+    by: AllowancesBy,
+    c: &[u8],
+    d: &[u8],
+    t: &[u8],
+    responses: &mut [u8],
+    allowances: &mut [u8],
+) -> Answer
+    ensures { λ r. ⌜ BytesAnswered (allowanceBy by) (now (c .entry)) (now (d .entry)) (now (t .entry)) (now (responses .entry)) (now (allowances .entry)) r (now (responses .exit)) (now (allowances .exit)) ⌝ }
+{
+    if !are_rows(c, d, t) {
+        return Answer::RowsOutOfRange;
+    }
+    let n = c.len() / 4;
+    let cs = numbers::read_numbers(c);
+    let ds = numbers::read_numbers(d);
+    let ts = numbers::read_numbers(t);
+    answer_in_bytes(by, &cs[..n], &ds[..n], &ts[..n], responses, allowances)
+}
+
+// The table service.
+#[no_mangle]
+pub extern "C" fn hibalunduk_table(table: &[u8], report: &mut [u8]) -> EntryAnswer
+    ensures { λ r. ⌜ TableReturned (now (table .entry)) (now (report .entry)) (r .number) (r .row) (now (report .exit)) ⌝ }
+{
+    entry_answer(tables::table_service(table, report))
+}
+
+// The set service.
+#[no_mangle]
+pub extern "C" fn hibalunduk_set(
+    c: &[u8],
+    d: &[u8],
+    t: &[u8],
+    responses: &mut [u8],
+    allowances: &mut [u8],
+) -> EntryAnswer
+    ensures { λ r. ⌜ SetReturned (now (c .entry)) (now (d .entry)) (now (t .entry)) (now (responses .entry)) (now (allowances .entry)) (r .number) (r .row) (now (responses .exit)) (now (allowances .exit)) ⌝ }
+{
+    entry_answer(answer_bytes(AllowancesBy::Trial, c, d, t, responses, allowances))
+}
+
+// The point service.
+#[no_mangle]
+pub extern "C" fn hibalunduk_point(
+    c: &[u8],
+    d: &[u8],
+    t: &[u8],
+    responses: &mut [u8],
+    allowances: &mut [u8],
+) -> EntryAnswer
+    ensures { λ r. ⌜ PointReturned (now (c .entry)) (now (d .entry)) (now (t .entry)) (now (responses .entry)) (now (allowances .entry)) (r .number) (r .row) (now (responses .exit)) (now (allowances .exit)) ⌝ }
+{
+    entry_answer(answer_bytes(AllowancesBy::Points, c, d, t, responses, allowances))
+}
