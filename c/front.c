@@ -1,0 +1,148 @@
+/* A front end over the three services, and the example of how to call them: certifies the table in a file, then
+ * gives each core's rows to the set service and the point service and says whether they agree with the report.
+ * Status 0: certified; 1: refused; 2: no file to read; 3: a service does not agree. */
+#include "hibalunduk.h"
+
+#include <stdbool.h>
+#include <stdio.h>
+#include <string.h>
+
+enum { CORES_RECORD = 2, ROW_RECORD = 13, FIGURES_RECORD = 10 };
+
+/* A table and its report; the table has room for the one byte that shows that it is too long. */
+struct certificate {
+    uint8_t table[HIBALUNDUK_TABLE_MAX + 1], report[HIBALUNDUK_REPORT_MAX];
+    size_t table_len, rows;
+};
+
+/* One core's rows as lists, and what the report says of them. */
+struct core {
+    size_t len; /* of each list, four bytes a row */
+    uint8_t c[HIBALUNDUK_LIST_MAX], d[HIBALUNDUK_LIST_MAX], t[HIBALUNDUK_LIST_MAX];
+    uint8_t responses[HIBALUNDUK_LIST_MAX], allowances[HIBALUNDUK_LIST_MAX];
+};
+
+typedef struct hibalunduk_answer list_service(const uint8_t *, size_t, const uint8_t *, size_t,
+                                              const uint8_t *, size_t, uint8_t *, size_t,
+                                              uint8_t *, size_t);
+
+/* A number of four bytes, big-endian. */
+static uint32_t number_at(const uint8_t *bytes)
+{
+    return (uint32_t)bytes[0] << 24 | (uint32_t)bytes[1] << 16 | (uint32_t)bytes[2] << 8 | bytes[3];
+}
+
+/* The body of a row's kind 2 record in the report: C, D and T. */
+static const uint8_t *row_body(const struct certificate *certificate, size_t row)
+{
+    return certificate->report + CORES_RECORD + ROW_RECORD * row + 1;
+}
+
+/* The body of a row's kind 3 record in the report: core, response time and allowance. */
+static const uint8_t *figures_body(const struct certificate *certificate, size_t row)
+{
+    return certificate->report + CORES_RECORD + ROW_RECORD * certificate->rows + FIGURES_RECORD * row + 1;
+}
+
+/* Reads a table from a file, or from standard input; false when there is nothing to read from. */
+static bool read_table(const char *name, struct certificate *certificate)
+{
+    FILE *file = strcmp(name, "-") == 0 ? stdin : fopen(name, "rb");
+
+    if (file == NULL)
+        return false;
+    certificate->table_len = fread(certificate->table, 1, sizeof certificate->table, file);
+    return !ferror(file) && (file == stdin || fclose(file) == 0);
+}
+
+/* Prints the report in hex, then the figures of each row and the system's allowance. */
+static void print_report(const struct certificate *certificate)
+{
+    uint32_t system = HIBALUNDUK_TICKS_MAX;
+
+    printf("report ");
+    for (size_t n = 0; n < 4 + 23 * certificate->rows; n++)
+        printf("%02x", certificate->report[n]);
+    printf("\nrow core response allowance\n");
+    for (size_t row = 0; row < certificate->rows; row++) {
+        const uint8_t *figures = figures_body(certificate, row);
+        uint32_t allowance = number_at(figures + 5);
+
+        printf("%u %u %u %u\n", (unsigned)row + 1, (unsigned)figures[0], (unsigned)number_at(figures + 1),
+               (unsigned)allowance);
+        if (allowance < system)
+            system = allowance;
+    }
+    printf("system %u\n", (unsigned)system);
+}
+
+/* Gathers the rows that the report puts on a core, in table order. */
+static void gather_core(const struct certificate *certificate, unsigned number, struct core *core)
+{
+    core->len = 0;
+    for (size_t row = 0; row < certificate->rows; row++) {
+        const uint8_t *body = row_body(certificate, row), *figures = figures_body(certificate, row);
+
+        if (figures[0] != number)
+            continue;
+        memcpy(core->c + core->len, body, 4);
+        memcpy(core->d + core->len, body + 4, 4);
+        memcpy(core->t + core->len, body + 8, 4);
+        memcpy(core->responses + core->len, figures + 1, 4);
+        memcpy(core->allowances + core->len, figures + 5, 4);
+        core->len += 4;
+    }
+}
+
+/* Whether a list service accepts a core's rows and gives the report's response times and allowances. */
+static bool agrees(list_service *service, const struct core *core)
+{
+    uint8_t responses[HIBALUNDUK_LIST_MAX], allowances[HIBALUNDUK_LIST_MAX];
+    struct hibalunduk_answer answer = service(core->c, core->len, core->d, core->len, core->t, core->len,
+                                              responses, sizeof responses, allowances, sizeof allowances);
+
+    return answer.number == 0 && memcmp(responses, core->responses, core->len) == 0 &&
+           memcmp(allowances, core->allowances, core->len) == 0;
+}
+
+/* Prints for each core whether both list services agree with the report; false when one does not. */
+static bool print_cores(const struct certificate *certificate)
+{
+    bool all = true;
+
+    for (unsigned number = 1; number <= certificate->report[1]; number++) {
+        struct core core;
+
+        gather_core(certificate, number, &core);
+        if (core.len == 0) {
+            printf("core %u: no rows\n", number);
+            continue;
+        }
+        bool set = agrees(hibalunduk_set, &core), point = agrees(hibalunduk_point, &core);
+
+        printf("core %u: set %s, point %s\n", number, set ? "agrees" : "differs", point ? "agrees" : "differs");
+        all = all && set && point;
+    }
+    return all;
+}
+
+/* Certifies the table of the file named, or of standard input. */
+int main(int argc, char **argv)
+{
+    struct certificate certificate;
+    struct hibalunduk_answer answer;
+
+    if (argc > 2 || !read_table(argc == 2 ? argv[1] : "-", &certificate)) {
+        fprintf(stderr, "usage: front [TABLE], a file of table bytes; standard input without one\n");
+        return 2;
+    }
+    answer = hibalunduk_table(certificate.table, certificate.table_len, certificate.report,
+                              sizeof certificate.report);
+    if (answer.number != 0) {
+        printf("refused %u row %u\n", (unsigned)answer.number, (unsigned)answer.row);
+        return 1;
+    }
+    certificate.rows = (certificate.table_len - 4) / ROW_RECORD;
+    print_report(&certificate);
+    return print_cores(&certificate) ? 0 : 3;
+}

@@ -1,0 +1,110 @@
+/* Hibalunduk for programs in C: the three services of document 01, which decides where this page is short.
+ *
+ * A table has rows, numbered from 1, each with an execution time C, a deadline D and a period T in whole ticks,
+ * 1 <= C <= D <= T <= 1,000,000. The services say on which core a row goes, its response time, and its
+ * allowance: how far it may run over before a row on its core is late.
+ *
+ * What a caller has to keep:
+ * - A pointer has at least as many bytes behind it as the length after it says. It is not null, not even where
+ *   the length is 0.
+ * - No two of a call's byte strings share a byte, and nothing else writes to them during the call.
+ * Beyond that every call is allowed: any bytes, any lengths. What is said below holds of every such call, and is
+ * proved.
+ *
+ * What a caller can rely on:
+ * - The answer and the bytes written depend on nothing but the arguments. There is nothing to initialise, nothing
+ *   is kept between calls, nothing is allocated, no system call is made. Any number of threads may call at once.
+ * - Nothing is written but the report or the two answer lists, and of those only the bytes named below. The others
+ *   keep their content.
+ * - A refused call writes nothing.
+ * - Every call ends. How long it may take stands with each service.
+ *
+ * Numbers in bytes are unsigned and big-endian. Link with target/staticlib/libentries.a (c/build does).
+ */
+#ifndef HIBALUNDUK_H
+#define HIBALUNDUK_H
+
+#include <stddef.h>
+#include <stdint.h>
+
+#ifdef __cplusplus
+extern "C" {
+#endif
+
+/* The limits, and the lengths that follow from them. */
+enum {
+    HIBALUNDUK_CORES_MAX = 8,
+    HIBALUNDUK_ROWS_MAX = 24,
+    HIBALUNDUK_TICKS_MAX = 1000000,
+    HIBALUNDUK_TABLE_MAX = 2 + 13 * HIBALUNDUK_ROWS_MAX + 2, /* bytes of a table of 24 rows */
+    HIBALUNDUK_REPORT_MAX = 4 + 23 * HIBALUNDUK_ROWS_MAX,    /* bytes of its report */
+    HIBALUNDUK_LIST_MAX = 4 * HIBALUNDUK_ROWS_MAX            /* bytes of a list of 24 numbers */
+};
+
+/* An answer: number 0 and row 0 when accepted, else the refusal's number, and its row or 0.
+ *
+ *   1  a record is cut short or missing, a kind is not allowed at its place, bytes follow kind 4     row 0
+ *   2  the number of cores is 0 or above 8                                                         row 0
+ *   3  no rows or a 25th row; lists of unequal length, or of a length not a multiple of four       row 0
+ *   4  a row breaks 1 <= C <= D <= T <= 1,000,000                                     the first such row
+ *   5  kind 4 states another count of rows than was read                                           row 0
+ *   6  no core takes a row in the placement (another placement may exist)                       that row
+ *   7  the report or an answer list is shorter than the answer                                     row 0
+ *   8  a row misses its deadline                                          the highest-ranked such row
+ */
+struct hibalunduk_answer {
+    uint32_t number;
+    uint32_t row;
+};
+
+/* The table service: reads a table, places its rows on cores, and writes the report.
+ *
+ * A record is one byte of kind and a body: kind 1 the number of cores (1 byte); kind 2 a row, C, D and T (4 bytes
+ * each); kind 3 a row's core from 1 (1 byte), response time (4) and allowance (4); kind 4 the number of rows
+ * (1 byte). A table is one kind 1, a kind 2 for each row, one kind 4. The report of n rows is the table's kind 1 and
+ * kind 2 unchanged, then a kind 3 for each row in table order, then kind 4: 4 + 23 n bytes at the front of `report`.
+ *
+ * Refusals: 1 to 5 as the records are read from the front, the first fault decides. A kind byte is looked at before
+ * its body, a 25th kind 2 is refused (3) before its body, a row's limits (4) as soon as its body is there; at kind 4 the
+ * order is cut short (1), no rows (3), count (5), bytes after (1). Then 7, then 6. Never 8.
+ *
+ * A table of more than HIBALUNDUK_TABLE_MAX bytes is always refused, and its first HIBALUNDUK_TABLE_MAX + 1 bytes get
+ * the same answer, so no longer buffer is needed to read one.
+ *
+ * Time: @TABLE_TIME@
+ */
+struct hibalunduk_answer hibalunduk_table(const uint8_t *table, size_t table_len,
+                                          uint8_t *report, size_t report_len);
+
+/* The set service: one core's rows as lists of C, D and T, four bytes a number, in table order. Fills `responses`
+ * with the rows' response times and `allowances` with their allowances, found by trial of the definition.
+ *
+ * For n rows it writes 4 n bytes at the front of each answer list; these may be longer, and of any length.
+ *
+ * Refusals, in this order: 3 when c_len, d_len and t_len are not one and the same multiple of four from 4 to
+ * HIBALUNDUK_LIST_MAX; 4; 7 when an answer list is shorter than c_len; 8. Never 1, 2, 5 or 6.
+ *
+ * Time: @SET_TIME@
+ */
+struct hibalunduk_answer hibalunduk_set(const uint8_t *c, size_t c_len,
+                                        const uint8_t *d, size_t d_len,
+                                        const uint8_t *t, size_t t_len,
+                                        uint8_t *responses, size_t responses_len,
+                                        uint8_t *allowances, size_t allowances_len);
+
+/* The point service: takes, fills and refuses as the set service does, and answers the same on every call; its
+ * allowances are found by the point formula.
+ *
+ * Time: @POINT_TIME@
+ */
+struct hibalunduk_answer hibalunduk_point(const uint8_t *c, size_t c_len,
+                                          const uint8_t *d, size_t d_len,
+                                          const uint8_t *t, size_t t_len,
+                                          uint8_t *responses, size_t responses_len,
+                                          uint8_t *allowances, size_t allowances_len);
+
+#ifdef __cplusplus
+}
+#endif
+
+#endif
