@@ -1,0 +1,93 @@
+/* Calls of a service with lent bytes that a runner can look at afterwards. */
+#include "calls.h"
+
+#include <stdlib.h>
+#include <string.h>
+
+/* The byte that stands at a place of an output before a call. */
+static uint8_t pattern(size_t place)
+{
+    return (uint8_t)(0xA5 + 37 * place);
+}
+
+/* Fills both outputs with the pattern. */
+static void fill(struct called *called)
+{
+    for (size_t place = 0; place < OUTPUT_ROOM; place++)
+        called->first[place] = called->second[place] = pattern(place);
+}
+
+/* Whether an output has the pattern from a place of what is lent to its end, and in the margin before. */
+bool kept_from(const uint8_t *output, size_t lent_from)
+{
+    for (size_t place = 0; place < OUTPUT_ROOM; place++)
+        if ((place < MARGIN || place >= MARGIN + lent_from) && output[place] != pattern(place))
+            return false;
+    return true;
+}
+
+/* A copy of bytes in memory of exactly their length, so that a sanitizer sees a read beyond it. */
+static uint8_t *exact(const uint8_t *bytes, size_t len)
+{
+    uint8_t *copy = malloc(len == 0 ? 1 : len);
+
+    if (copy == NULL)
+        abort();
+    memcpy(copy, bytes, len);
+    return copy;
+}
+
+/* Frees a copy; false when it is not as it was. */
+static bool free_kept(uint8_t *copy, const uint8_t *bytes, size_t len)
+{
+    bool kept = memcmp(copy, bytes, len) == 0;
+
+    free(copy);
+    return kept;
+}
+
+/* Calls a table service on a table and a report of these lengths. */
+void call_table(table_service *service, const uint8_t *bytes, size_t len, size_t report_len, struct called *called)
+{
+    uint8_t *table = exact(bytes, len);
+
+    fill(called);
+    called->answer = service(table, len, called->first + MARGIN, report_len);
+    called->read_kept = free_kept(table, bytes, len);
+}
+
+/* Calls a list service on lists and answer lists of their lengths. */
+void call_lists(list_service *service, const struct lists *lists, struct called *called)
+{
+    uint8_t *c = exact(lists->c, lists->c_len), *d = exact(lists->d, lists->d_len);
+    uint8_t *t = exact(lists->t, lists->t_len);
+    bool c_kept, d_kept, t_kept;
+
+    fill(called);
+    called->answer = service(c, lists->c_len, d, lists->d_len, t, lists->t_len, called->first + MARGIN,
+                             lists->responses_len, called->second + MARGIN, lists->allowances_len);
+    c_kept = free_kept(c, lists->c, lists->c_len);
+    d_kept = free_kept(d, lists->d, lists->d_len);
+    t_kept = free_kept(t, lists->t, lists->t_len);
+    called->read_kept = c_kept && d_kept && t_kept;
+}
+
+/* Whether two answers are the same. */
+bool same_answer(struct second_answer one, struct second_answer other)
+{
+    return one.number == other.number && one.row == other.row;
+}
+
+/* Whether two calls left the same, every byte counted. */
+bool same_called(const struct called *one, const struct called *other)
+{
+    return same_answer(one->answer, other->answer) && memcmp(one->first, other->first, OUTPUT_ROOM) == 0 &&
+           memcmp(one->second, other->second, OUTPUT_ROOM) == 0 && one->read_kept == other->read_kept;
+}
+
+/* Whether a call left what it read as it was, and its outputs too where it was refused. */
+bool well_behaved(const struct called *called)
+{
+    return called->read_kept &&
+           (called->answer.number == 0 || (kept_from(called->first, 0) && kept_from(called->second, 0)));
+}

@@ -1,0 +1,33 @@
+/* Calls of a service with lent bytes that a runner can look at afterwards. */
+#ifndef CALLS_H
+#define CALLS_H
+
+#include "cases.h"
+#include "second.h"
+
+/* Lent bytes: a margin, what is lent, and a margin at least as long. */
+enum { MARGIN = 16, LENT_ROOM = 4 + 23 * (ROWS_MAX + 1) + 40, OUTPUT_ROOM = MARGIN + LENT_ROOM + MARGIN };
+
+typedef struct second_answer table_service(const uint8_t *, size_t, uint8_t *, size_t);
+typedef struct second_answer list_service(const uint8_t *, size_t, const uint8_t *, size_t,
+                                          const uint8_t *, size_t, uint8_t *, size_t,
+                                          uint8_t *, size_t);
+
+/* What a call leaves: its answer; a report or response times; allowances; and whether what it read is as it was. */
+struct called {
+    struct second_answer answer;
+    uint8_t first[OUTPUT_ROOM], second[OUTPUT_ROOM];
+    bool read_kept;
+};
+
+/* Calls on bytes of exactly their length; outputs are filled with a pattern before. */
+void call_table(table_service *service, const uint8_t *bytes, size_t len, size_t report_len, struct called *called);
+void call_lists(list_service *service, const struct lists *lists, struct called *called);
+
+/* What a call left. */
+bool kept_from(const uint8_t *output, size_t lent_from);
+bool same_answer(struct second_answer one, struct second_answer other);
+bool same_called(const struct called *one, const struct called *other);
+bool well_behaved(const struct called *called);
+
+#endif

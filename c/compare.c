@@ -1,0 +1,500 @@
+/* Runs the product and the second program, two answers to document 01 that share no line, on the document's sheets and on
+ * random cases, and on small numbers a third opinion too. Compares the answer, the row and every byte lent, and stops at
+ * the first that differ. Arguments: seed, number of cases. Status 0: none differ; 1: some do. */
+#include "brute.h"
+#include "hibalunduk.h"
+#include "sheets.h"
+
+#include <stdio.h>
+#include <stdlib.h>
+#include <string.h>
+
+/* Above these, the second program's walk with its repeats and the third opinion take long. */
+enum { WALKED_ROWS = 16, SMALL_TICKS = 60, SMALL_WORK = 400 };
+
+/* A kind of cases: how its rows are drawn, what is compared on them, and how often; then what came of it. */
+struct kind {
+    const char *name;
+    void (*draw)(struct rows *);
+    void (*compare)(const struct rows *);
+    unsigned once_in;
+    unsigned long drawn, compared, third, numbers[9];
+};
+
+#define KIND(kind, drawn_by, compared_by, times) \
+    { .name = kind, .draw = drawn_by, .compare = compared_by, .once_in = times }
+
+/* A program: its three services. */
+struct program {
+    const char *name;
+    table_service *table;
+    list_service *set, *point;
+};
+
+static unsigned long seed, cases;
+static struct kind *current; /* the kind of the case at hand */
+
+/* ---- The product's services in the second program's form ---- */
+
+/* An answer of the product. */
+static struct second_answer answered(struct hibalunduk_answer answer)
+{
+    return (struct second_answer){ answer.number, answer.row };
+}
+
+/* The product's table service. */
+static struct second_answer product_table(const uint8_t *table, size_t table_len, uint8_t *report, size_t report_len)
+{
+    return answered(hibalunduk_table(table, table_len, report, report_len));
+}
+
+/* The product's set service. */
+static struct second_answer product_set(const uint8_t *c, size_t c_len, const uint8_t *d, size_t d_len,
+                                        const uint8_t *t, size_t t_len, uint8_t *responses, size_t responses_len,
+                                        uint8_t *allowances, size_t allowances_len)
+{
+    return answered(hibalunduk_set(c, c_len, d, d_len, t, t_len, responses, responses_len, allowances,
+                                   allowances_len));
+}
+
+/* The product's point service. */
+static struct second_answer product_point(const uint8_t *c, size_t c_len, const uint8_t *d, size_t d_len,
+                                          const uint8_t *t, size_t t_len, uint8_t *responses, size_t responses_len,
+                                          uint8_t *allowances, size_t allowances_len)
+{
+    return answered(hibalunduk_point(c, c_len, d, d_len, t, t_len, responses, responses_len, allowances,
+                                     allowances_len));
+}
+
+static const struct program product = { "the product", product_table, product_set, product_point };
+static const struct program second = { "the second program", second_table, second_set, second_point };
+static const struct program third = { "the third opinion", brute_table, brute_set, brute_set };
+
+/* ---- What differs ---- */
+
+/* Prints bytes in hex on a line. */
+static void print_bytes(const char *name, const uint8_t *bytes, size_t len)
+{
+    printf("  %s, %lu bytes: ", name, (unsigned long)len);
+    for (size_t n = 0; n < len; n++)
+        printf("%02x", bytes[n]);
+    printf("\n");
+}
+
+/* Prints what a call left, with the margins. */
+static void print_called(const char *name, const struct called *called, size_t first_len, size_t second_len)
+{
+    printf("  %s: number %u row %u, what it read %s\n", name, (unsigned)called->answer.number,
+           (unsigned)called->answer.row, called->read_kept ? "kept" : "changed");
+    print_bytes("report or response times, with margins", called->first, MARGIN + first_len + MARGIN);
+    print_bytes("allowances, with margins", called->second, MARGIN + second_len + MARGIN);
+}
+
+/* Says which case the difference is in. */
+static void print_case(const char *what)
+{
+    printf("differ: seed %lu, %s, case %lu of its kind: %s\n", seed, current->name, current->drawn, what);
+}
+
+/* Ends the run at the first difference. */
+static void stop(void)
+{
+    printf("compare: %lu cases, 1 differ\n", cases);
+    exit(1);
+}
+
+/* Counts a comparison with its answer. */
+static void count(const struct called *called)
+{
+    current->compared++;
+    current->numbers[called->answer.number > 8 ? 8 : called->answer.number]++;
+}
+
+/* ---- Tables ---- */
+
+/* Whether the third opinion can be had on a table in reasonable time: few rows of small numbers. */
+static bool small_table(const uint8_t *bytes, size_t len)
+{
+    uint32_t rows = 0, greatest = 0;
+
+    for (size_t at = 2; at + 13 <= len && bytes[at] == 2; at += 13, rows++)
+        if (get_number(bytes + at + 9) > greatest)
+            greatest = get_number(bytes + at + 9);
+    return greatest <= SMALL_TICKS && rows * greatest <= SMALL_WORK;
+}
+
+/* Compares the product's call on a table with another program's. */
+static void against_table(const struct program *other, const struct called *ours, const uint8_t *bytes, size_t len,
+                          size_t report_len)
+{
+    struct called theirs;
+    bool same;
+
+    call_table(other->table, bytes, len, report_len, &theirs);
+    same = same_called(ours, &theirs) && well_behaved(ours) &&
+           (ours->answer.number != 0 || kept_from(ours->first, 4 + 23 * ((len - 4) / 13)));
+    if (same)
+        return;
+    print_case(other->name);
+    print_bytes("table", bytes, len);
+    printf("  report of %lu bytes\n", (unsigned long)report_len);
+    print_called(product.name, ours, report_len, 0);
+    print_called(other->name, &theirs, report_len, 0);
+    stop();
+}
+
+/* Compares all programs on a table and a report of these lengths. */
+static void compare_table(const uint8_t *bytes, size_t len, size_t report_len)
+{
+    struct called ours;
+
+    call_table(product.table, bytes, len, report_len, &ours);
+    against_table(&second, &ours, bytes, len, report_len);
+    if (small_table(bytes, len)) {
+        against_table(&third, &ours, bytes, len, report_len);
+        current->third++;
+    }
+    count(&ours);
+}
+
+/* A length for what is lent: as needed, or a little more, or now and then less. */
+static size_t lent_length(size_t needed)
+{
+    return once_in(8) ? below((uint32_t)needed + 1) : needed + (once_in(2) ? 0 : below(30));
+}
+
+/* A report's length. */
+static size_t report_length(const struct rows *rows)
+{
+    return lent_length(4 + 23 * (size_t)rows->count);
+}
+
+/* A table as it was drawn. */
+static void table_as_drawn(const struct rows *rows)
+{
+    uint8_t bytes[TABLE_ROOM];
+
+    compare_table(bytes, table_bytes(rows, bytes), report_length(rows));
+}
+
+/* A table with one byte changed, or two: any byte, or a kind, the cores or the count. */
+static void table_damaged(const struct rows *rows)
+{
+    uint8_t bytes[TABLE_ROOM];
+    size_t len = table_bytes(rows, bytes);
+
+    do {
+        size_t record = 2 + 13 * (size_t)below(rows->count + 1);
+
+        switch (below(4)) {
+        case 0: bytes[below((uint32_t)len)] = (uint8_t)below(256); break;
+        case 1: bytes[record] = (uint8_t)below(6); break;
+        case 2: bytes[below(2)] = (uint8_t)below(12); break;
+        default: bytes[record + below(2)] ^= (uint8_t)(1 << below(8)); break;
+        }
+    } while (once_in(3));
+    compare_table(bytes, len, report_length(rows));
+}
+
+/* A table cut at every one of its last bytes, and somewhere else. */
+static void table_truncated(const struct rows *rows)
+{
+    uint8_t bytes[TABLE_ROOM];
+    size_t len = table_bytes(rows, bytes), least = len < 18 ? 0 : len - 18;
+
+    for (size_t cut = least; cut < len; cut++)
+        compare_table(bytes, cut, report_length(rows));
+    compare_table(bytes, below((uint32_t)len), report_length(rows));
+}
+
+/* A table with bytes after it: any bytes, or bytes that look like records. */
+static void table_with_bytes_after(const struct rows *rows)
+{
+    uint8_t bytes[TABLE_ROOM];
+    size_t len = table_bytes(rows, bytes), after = 1 + below(15);
+
+    for (size_t n = 0; n < after; n++)
+        bytes[len + n] = (uint8_t)below(once_in(2) ? 5 : 256);
+    compare_table(bytes, len + after, report_length(rows));
+}
+
+/* A table with every count next to its own, and with another. */
+static void table_miscounted(const struct rows *rows)
+{
+    uint8_t bytes[TABLE_ROOM];
+    size_t len = table_bytes(rows, bytes);
+    uint8_t counts[] = { 0, (uint8_t)(rows->count - 1), (uint8_t)(rows->count + 1), (uint8_t)below(256), 255 };
+
+    for (size_t n = 0; n < sizeof counts; n++) {
+        bytes[len - 1] = counts[n];
+        compare_table(bytes, len, report_length(rows));
+        compare_table(bytes, len - below(2), report_length(rows));
+        bytes[len] = (uint8_t)below(256);
+        compare_table(bytes, len + 1, report_length(rows));
+    }
+}
+
+/* A table with every report length around the one needed, none, and one byte. */
+static void table_report_lengths(const struct rows *rows)
+{
+    uint8_t bytes[TABLE_ROOM];
+    size_t len = table_bytes(rows, bytes), needed = 4 + 23 * (size_t)rows->count;
+
+    for (size_t report_len = needed < 12 ? 0 : needed - 12; report_len <= needed + 12; report_len++)
+        compare_table(bytes, len, report_len);
+    compare_table(bytes, len, 0);
+    compare_table(bytes, len, 1);
+}
+
+/* ---- Lists ---- */
+
+/* Whether the third opinion can be had on lists in reasonable time. */
+static bool small_lists(const struct lists *lists)
+{
+    uint32_t greatest = 0;
+
+    for (size_t at = 0; at + 4 <= lists->t_len; at += 4)
+        if (get_number(lists->t + at) > greatest)
+            greatest = get_number(lists->t + at);
+    return greatest <= SMALL_TICKS && lists->t_len / 4 * greatest <= SMALL_WORK;
+}
+
+/* Compares what the product left of lists with what another program left. */
+static void against_lists(const char *what, const struct called *ours, const struct called *theirs,
+                          const struct lists *lists)
+{
+    bool same = same_called(ours, theirs) && well_behaved(ours) &&
+                (ours->answer.number != 0 ||
+                 (kept_from(ours->first, lists->c_len) && kept_from(ours->second, lists->c_len)));
+
+    if (same)
+        return;
+    print_case(what);
+    print_bytes("C", lists->c, lists->c_len);
+    print_bytes("D", lists->d, lists->d_len);
+    print_bytes("T", lists->t, lists->t_len);
+    printf("  answer lists of %lu and %lu bytes\n", (unsigned long)lists->responses_len,
+           (unsigned long)lists->allowances_len);
+    print_called("the product", ours, lists->responses_len, lists->allowances_len);
+    print_called("the other", theirs, lists->responses_len, lists->allowances_len);
+    stop();
+}
+
+/* Compares both point services on lists. */
+static void compare_walks(const struct lists *lists)
+{
+    struct called ours, theirs;
+
+    call_lists(product.point, lists, &ours);
+    call_lists(second.point, lists, &theirs);
+    against_lists("point, the second program", &ours, &theirs, lists);
+}
+
+/* Compares all programs on lists; both point services where the second program's does not walk too long. */
+static void compare_lists(const struct lists *lists)
+{
+    struct called set, point, theirs;
+
+    call_lists(product.set, lists, &set);
+    call_lists(product.point, lists, &point);
+    call_lists(second.set, lists, &theirs);
+    against_lists("set, the second program", &set, &theirs, lists);
+    against_lists("point, the second program's set", &point, &theirs, lists);
+    if (lists->c_len / 4 <= WALKED_ROWS)
+        compare_walks(lists);
+    if (small_lists(lists)) {
+        call_lists(third.set, lists, &theirs);
+        against_lists("set, the third opinion", &set, &theirs, lists);
+        current->third++;
+    }
+    count(&set);
+}
+
+/* The lists of rows that were drawn for several cores: their C, where it is not above D, shared between these. */
+static void one_core_lists(const struct rows *rows, struct lists *lists)
+{
+    struct rows shared = *rows;
+
+    for (unsigned n = 0; n < rows->count; n++)
+        if (rows->cores > 1 && rows->row[n].c <= rows->row[n].d)
+            shared.row[n].c = (rows->row[n].c - 1) / rows->cores + 1;
+    list_bytes(&shared, lists);
+}
+
+/* Lists as they were drawn. */
+static void lists_as_drawn(const struct rows *rows)
+{
+    struct lists lists;
+
+    one_core_lists(rows, &lists);
+    lists.responses_len = lent_length(lists.c_len);
+    lists.allowances_len = lent_length(lists.c_len);
+    compare_lists(&lists);
+}
+
+/* Lists as they were drawn, with both point services whatever the walk. */
+static void lists_walked(const struct rows *rows)
+{
+    struct lists lists;
+
+    list_bytes(rows, &lists);
+    compare_lists(&lists);
+    compare_walks(&lists);
+}
+
+/* Lists with one byte changed, or two. */
+static void lists_damaged(const struct rows *rows)
+{
+    struct lists lists;
+
+    one_core_lists(rows, &lists);
+    do {
+        uint8_t *list = once_in(3) ? lists.c : once_in(2) ? lists.d : lists.t;
+
+        list[below((uint32_t)lists.c_len + 1)] = (uint8_t)(once_in(2) ? below(256) : below(3));
+    } while (once_in(3));
+    compare_lists(&lists);
+}
+
+/* Every three lengths around that of the rows but the last, so that the longer ones hold rows too. */
+static void lists_of_lengths(const struct rows *rows)
+{
+    struct lists lists;
+    size_t len = 4 * (size_t)(rows->count > 0 ? rows->count - 1 : 0), least = len < 4 ? 0 : len - 4;
+
+    one_core_lists(rows, &lists);
+    for (lists.c_len = least; lists.c_len <= len + 4; lists.c_len++)
+        for (lists.d_len = least; lists.d_len <= len + 4; lists.d_len++)
+            for (lists.t_len = least; lists.t_len <= len + 4; lists.t_len++)
+                compare_lists(&lists);
+}
+
+/* Every two lengths of the answer lists around the one needed, and none. */
+static void answer_lists_of_lengths(const struct rows *rows)
+{
+    struct lists lists;
+    size_t len = 4 * (size_t)rows->count, least = len < 5 ? 0 : len - 5;
+
+    one_core_lists(rows, &lists);
+    for (lists.responses_len = least; lists.responses_len <= len + 5; lists.responses_len++)
+        for (lists.allowances_len = least; lists.allowances_len <= len + 5; lists.allowances_len++)
+            compare_lists(&lists);
+    lists.responses_len = 0;
+    compare_lists(&lists);
+    lists.responses_len = lists.allowances_len;
+    lists.allowances_len = 0;
+    compare_lists(&lists);
+}
+
+/* ---- The run ---- */
+
+static struct kind sheets = { .name = "sheets of document 01" };
+
+static struct kind kinds[] = {
+    KIND("table: small numbers", small_rows, table_as_drawn, 1),
+    KIND("table: ordinary", ordinary_rows, table_as_drawn, 1),
+    KIND("table: near the limits", limit_rows, table_as_drawn, 1),
+    KIND("table: rows break the limits", broken_rows, table_as_drawn, 1),
+    KIND("table: equal deadlines", equal_deadlines, table_as_drawn, 1),
+    KIND("table: equal utilisations", equal_utilisations, table_as_drawn, 1),
+    KIND("table: ties between cores", equal_cores, table_as_drawn, 1),
+    KIND("table: full cores", full_cores, table_as_drawn, 1),
+    KIND("table: short D, long T", urgent_rows, table_as_drawn, 1),
+    KIND("table: damaged bytes", any_rows, table_damaged, 1),
+    KIND("table: truncated", any_rows, table_truncated, 1),
+    KIND("table: bytes after", any_rows, table_with_bytes_after, 1),
+    KIND("table: wrong count", any_rows, table_miscounted, 1),
+    KIND("table: report lengths", small_rows, table_report_lengths, 1),
+    KIND("table: report lengths, any rows", any_rows, table_report_lengths, 10),
+    KIND("table: long climbs", long_climbs, table_as_drawn, 10),
+    KIND("lists: small numbers", small_rows, lists_as_drawn, 1),
+    KIND("lists: ordinary", ordinary_rows, lists_as_drawn, 1),
+    KIND("lists: near the limits", limit_rows, lists_as_drawn, 1),
+    KIND("lists: rows break the limits", broken_rows, lists_as_drawn, 1),
+    KIND("lists: equal deadlines", equal_deadlines, lists_as_drawn, 1),
+    KIND("lists: equal utilisations", equal_utilisations, lists_as_drawn, 1),
+    KIND("lists: full core", full_cores, lists_as_drawn, 1),
+    KIND("lists: short D, long T", urgent_rows, lists_as_drawn, 1),
+    KIND("lists: damaged bytes", any_rows, lists_damaged, 1),
+    KIND("lists: lengths of C, D and T", any_rows, lists_of_lengths, 5),
+    KIND("lists: answer list lengths", small_rows, answer_lists_of_lengths, 2),
+    KIND("lists: long climbs", long_climbs, lists_as_drawn, 10),
+    KIND("lists: long walks", long_walks, lists_walked, 50),
+};
+
+enum { KINDS = sizeof kinds / sizeof kinds[0] };
+
+/* Compares a sheet's call with the paper. */
+static void compare_sheet(bool holds, const struct called *called)
+{
+    count(called);
+    if (holds)
+        return;
+    print_case("the paper");
+    print_called(product.name, called, LENT_ROOM, LENT_ROOM);
+    stop();
+}
+
+/* Runs the product's services on the sheets. */
+static void compare_sheets(void)
+{
+    struct called called;
+
+    current = &sheets;
+    for (size_t n = 0; n < SET_SHEETS; n++) {
+        current->drawn++;
+        compare_sheet(set_sheet_holds(n, product.set, &called), &called);
+        compare_sheet(set_sheet_holds(n, product.point, &called), &called);
+    }
+    for (size_t n = 0; n < TABLE_SHEETS; n++) {
+        current->drawn++;
+        compare_sheet(table_sheet_holds(n, product.table, &called), &called);
+    }
+}
+
+/* Runs random cases, the kinds in turn, each kind as often as it says. */
+static void compare_cases(void)
+{
+    struct rows rows;
+
+    start_random(seed);
+    for (unsigned long n = 0, drawn = 0; drawn < cases; n++) {
+        current = &kinds[n % KINDS];
+        if (n / KINDS % current->once_in != 0)
+            continue;
+        drawn++;
+        current->drawn++;
+        current->draw(&rows);
+        current->compare(&rows);
+    }
+}
+
+/* Prints what came of a kind; gives the calls compared. */
+static unsigned long print_kind(const struct kind *kind)
+{
+    printf("%-32s%7lu%9lu%7lu%9lu", kind->name, kind->drawn, kind->compared, kind->third, kind->numbers[0]);
+    for (int number = 1; number <= 8; number++)
+        printf("%8lu", kind->numbers[number]);
+    printf("\n");
+    return kind->compared;
+}
+
+/* Runs the sheets and the cases of a seed. */
+int main(int argc, char **argv)
+{
+    unsigned long compared;
+
+    seed = argc > 1 ? strtoul(argv[1], NULL, 10) : 1;
+    cases = argc > 2 ? strtoul(argv[2], NULL, 10) : 5000;
+    printf("seed %lu, %lu cases; inputs compared, of these with a third opinion, and their answers\n", seed, cases);
+    compare_sheets();
+    compare_cases();
+    printf("%-32s%7s%9s%7s%9s%8s%8s%8s%8s%8s%8s%8s%8s\n", "kind", "cases", "inputs", "third", "accepted", "1", "2",
+           "3", "4", "5", "6", "7", "8");
+    compared = print_kind(&sheets);
+    for (size_t n = 0; n < KINDS; n++)
+        compared += print_kind(&kinds[n]);
+    printf("%lu inputs compared\n", compared);
+    printf("compare: %lu cases, 0 differ\n", cases);
+    return 0;
+}

@@ -1,0 +1,17 @@
+/* Document 01's sheets as inputs with the answers on paper. */
+#ifndef SHEETS_H
+#define SHEETS_H
+
+#include "calls.h"
+
+enum { SET_SHEETS = 7, TABLE_SHEETS = 9, LISTING_ROOM = 1024 };
+
+/* Whether a service answers a sheet as the paper does, with nothing else written; what the call left is given too. */
+bool set_sheet_holds(size_t sheet, list_service *service, struct called *called);
+bool table_sheet_holds(size_t sheet, table_service *service, struct called *called);
+
+/* Listings. */
+bool listing_sheet_holds(size_t sheet);
+size_t listing_of(const struct called *called, size_t rows, char *text);
+
+#endif
