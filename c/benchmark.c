@@ -1,0 +1,340 @@
+/* What the product costs beside the second program: both on the same inputs in the same run, by processor time, best of
+ * several runs, as second / product: above 1 the product is the faster one. Argument: how many random tables a line. */
+#include "cases.h"
+#include "hibalunduk.h"
+#include "second.h"
+
+#include <math.h>
+#include <stdio.h>
+#include <stdlib.h>
+#include <string.h>
+#include <time.h>
+
+enum { REPORT_ROOM = 4 + 23 * ROWS_MAX, TABLES_MAX = 1000, BAR = 60 };
+
+/* A run is repeated until it takes this long; one that takes more than the second is not run as often. */
+static const double SHORT_RUN = 2000, LONG_RUN = 200000;
+
+enum service { TABLE, SET, POINT };
+
+static const char *const service_names[] = { "table", "set", "point" };
+
+/* The bytes of one input, as a table and as lists. */
+struct input {
+    uint8_t table[TABLE_ROOM];
+    size_t table_len;
+    struct lists lists;
+};
+
+/* Microseconds of one call. */
+struct cost {
+    double product, second;
+};
+
+/* ---- Calls ---- */
+
+static uint8_t report[REPORT_ROOM], responses[LIST_ROOM], allowances[LIST_ROOM];
+
+/* Calls the product's service; gives the answer's number. */
+static uint32_t call_product(enum service service, const struct input *input)
+{
+    const struct lists *lists = &input->lists;
+
+    if (service == TABLE)
+        return hibalunduk_table(input->table, input->table_len, report, sizeof report).number;
+    return (service == SET ? hibalunduk_set : hibalunduk_point)(
+               lists->c, lists->c_len, lists->d, lists->d_len, lists->t, lists->t_len, responses,
+               sizeof responses, allowances, sizeof allowances)
+        .number;
+}
+
+/* Calls the second program's service; gives the answer's number. */
+static uint32_t call_second(enum service service, const struct input *input)
+{
+    const struct lists *lists = &input->lists;
+
+    if (service == TABLE)
+        return second_table(input->table, input->table_len, report, sizeof report).number;
+    return (service == SET ? second_set : second_point)(
+               lists->c, lists->c_len, lists->d, lists->d_len, lists->t, lists->t_len, responses,
+               sizeof responses, allowances, sizeof allowances)
+        .number;
+}
+
+typedef uint32_t caller(enum service, const struct input *);
+
+/* Microseconds of so many calls together. */
+static double time_calls(caller *call, enum service service, const struct input *input, unsigned long calls)
+{
+    clock_t start = clock();
+
+    for (unsigned long n = 0; n < calls; n++)
+        call(service, input);
+    return (double)(clock() - start) * 1000000 / CLOCKS_PER_SEC;
+}
+
+/* How many calls make a run, from one that is timed. */
+static unsigned long calls_a_run(caller *call, enum service service, const struct input *input)
+{
+    unsigned long calls = 1;
+
+    while (time_calls(call, service, input, calls) < SHORT_RUN)
+        calls *= 2;
+    return calls;
+}
+
+/* What a call costs in both programs: the best of so many runs of each in turn, of one where a run takes long. */
+static struct cost measure(enum service service, const struct input *input, int runs)
+{
+    unsigned long ours = calls_a_run(call_product, service, input);
+    unsigned long theirs = calls_a_run(call_second, service, input);
+    struct cost best = { 1e300, 1e300 };
+
+    for (int run = 0; run < runs; run++) {
+        double product = time_calls(call_product, service, input, ours);
+        double second = time_calls(call_second, service, input, theirs);
+
+        best.product = fmin(best.product, product / (double)ours);
+        best.second = fmin(best.second, second / (double)theirs);
+        if (product + second > LONG_RUN)
+            break;
+    }
+    return best;
+}
+
+/* ---- Inputs ---- */
+
+/* The input of these rows. */
+static void make_input(const struct rows *rows, struct input *input)
+{
+    input->table_len = table_bytes(rows, input->table);
+    list_bytes(rows, &input->lists);
+}
+
+/* Rows from a text: C/D/T, or N*C/D/T for N of them, with spaces between. */
+static void read_rows(const char *text, struct rows *rows)
+{
+    unsigned times, c, d, t;
+    int used;
+
+    rows->count = 0;
+    for (; *text != '\0'; text += used) {
+        times = 1;
+        if (sscanf(text, " %u*%u/%u/%u%n", &times, &c, &d, &t, &used) != 4 &&
+            (times = 1, sscanf(text, " %u/%u/%u%n", &c, &d, &t, &used)) != 3)
+            abort();
+        while (times-- > 0)
+            rows->row[rows->count++] = (struct row){ c, d, t };
+    }
+}
+
+/* A random number above 0 and below 1. */
+static double fraction(void)
+{
+    return (below(1000000) + 0.5) / 1000000;
+}
+
+/* Splits a utilisation between rows by UUniFast; false when one would have more than a core. */
+static bool split_utilisation(double utilisation, unsigned count, double *parts)
+{
+    for (unsigned n = 0; n < count; n++) {
+        unsigned left = count - 1 - n;
+        double rest = left == 0 ? 0 : utilisation * pow(fraction(), 1.0 / left);
+
+        parts[n] = utilisation - rest;
+        utilisation = rest;
+        if (parts[n] > 1)
+            return false;
+    }
+    return true;
+}
+
+/* Rows by UUniFast with this utilisation of the cores that they can use; periods from 100 to 100,000, each magnitude alike. */
+static void uunifast_rows(struct rows *rows, unsigned cores, unsigned count, double utilisation, bool deadline_is_period)
+{
+    double parts[ROWS_MAX];
+
+    rows->cores = cores;
+    rows->count = count;
+    while (!split_utilisation(utilisation * (count < cores ? count : cores), count, parts))
+        continue;
+    for (unsigned n = 0; n < count; n++) {
+        uint32_t t = (uint32_t)(100 * pow(1000, fraction())), c = (uint32_t)(parts[n] * t);
+
+        c = c < 1 ? 1 : c;
+        rows->row[n] = (struct row){ c, deadline_is_period ? t : t - below((t - c) / 2 + 1), t };
+    }
+}
+
+/* Draws rows by UUniFast until the service accepts them; of so many, this one has its share of 0.5 to 0.9. */
+static void draw_accepted(enum service service, unsigned cores, unsigned count, bool deadline_is_period, double share,
+                          struct input *input)
+{
+    struct rows rows;
+
+    do {
+        uunifast_rows(&rows, cores, count, 0.5 + 0.4 * share, deadline_is_period);
+        make_input(&rows, input);
+    } while (call_product(service, input) != 0);
+}
+
+/* ---- The table ---- */
+
+/* Prints a line of the table. */
+static void print_line(enum service service, const char *input, struct cost cost, double ratio)
+{
+    printf("%-6s%14.2f%14.2f%10.2f  %s\n", service_names[service], cost.product, cost.second, ratio, input);
+    fflush(stdout);
+}
+
+/* Measures and prints one input. */
+static void given_input(enum service service, const char *text, unsigned cores, const char *name)
+{
+    struct rows rows = { .cores = cores };
+    struct input input;
+    struct cost cost;
+
+    read_rows(text, &rows);
+    make_input(&rows, &input);
+    cost = measure(service, &input, 7);
+    print_line(service, name, cost, cost.second / cost.product);
+}
+
+/* Which of two numbers is the smaller, for qsort. */
+static int order(const void *one, const void *other)
+{
+    double x = *(const double *)one, y = *(const double *)other;
+
+    return (x > y) - (x < y);
+}
+
+/* The middle one of numbers. */
+static double median(double *numbers, unsigned count)
+{
+    qsort(numbers, count, sizeof *numbers, order);
+    return count % 2 == 1 ? numbers[count / 2] : (numbers[count / 2 - 1] + numbers[count / 2]) / 2;
+}
+
+/* The median costs of random inputs, and the median of their ratios. */
+static struct cost random_inputs(enum service service, unsigned cores, unsigned count, bool deadline_is_period,
+                                 unsigned tables, double *ratio)
+{
+    static double product[TABLES_MAX], second[TABLES_MAX], ratios[TABLES_MAX];
+    struct cost middle;
+
+    for (unsigned n = 0; n < tables; n++) {
+        struct input input;
+        struct cost cost;
+
+        draw_accepted(service, cores, count, deadline_is_period, tables == 1 ? 0.5 : (double)n / (tables - 1), &input);
+        cost = measure(service, &input, 3);
+        product[n] = cost.product;
+        second[n] = cost.second;
+        ratios[n] = cost.second / cost.product;
+    }
+    middle = (struct cost){ median(product, tables), median(second, tables) };
+    *ratio = median(ratios, tables);
+    return middle;
+}
+
+/* Measures and prints random inputs of 24 rows. */
+static void random_line(enum service service, unsigned cores, bool deadline_is_period, unsigned tables)
+{
+    char name[100];
+    double ratio;
+    struct cost cost = random_inputs(service, cores, ROWS_MAX, deadline_is_period, tables, &ratio);
+
+    sprintf(name, "median of %u: 24 rows by UUniFast, %s, %u core%s", tables, deadline_is_period ? "D = T" : "D <= T",
+            cores, cores == 1 ? "" : "s");
+    print_line(service, name, cost, ratio);
+}
+
+/* The four rows of document 01. */
+static void print_the_four(void)
+{
+    static const char four[] = "10/60/70 15/85/100 30/190/210 45/260/320";
+
+    given_input(SET, four, 1, "the four rows of document 01");
+    given_input(POINT, four, 1, "the four rows of document 01");
+    given_input(TABLE, four, 2, "the four rows of document 01 on 2 cores");
+}
+
+/* Hostile tables, made for long climbs or for huge walks. */
+static void print_hostile(void)
+{
+    static const char five[] = "1/2/2 1/4/4 1/5/5 1/21/21 1/427/427 19*1/1000000/1000000";
+    static const char eleven[] = "1/2/2 1/3/3 1/8/8 1/25/25 1/608/608 3/999986/999986 1/999987/999987 1/999990/999990 "
+                                 "1/999994/999994 1/999998/999998 1/999999/999999 13*1/1000000/1000000";
+    static const char seven[] = "7*1/1/1 17*1/1000000/1000000";
+    static const char walks[] = "1/4/4 1/4/7 1/8/11 1/10/19 1/37/37 1/67/71 1/138/138 1/168/235 4/421/421 2/526/1003 "
+                                "1/1603/1603 1/2678/2678 1/3706/3994 933/7987/7987 19/15973/15973 1/31935/31935 "
+                                "45/63859/63859 1/127585/127585 1/254939/254939 1/507611/507611 1/999998/999998 "
+                                "3*1/1000000/1000000";
+
+    given_input(SET, five, 1, "long climbs: five short rows");
+    given_input(POINT, five, 1, "long climbs: five short rows");
+    given_input(TABLE, five, 1, "long climbs: five short rows, 1 core");
+    given_input(TABLE, five, 2, "long climbs: five short rows, 2 cores");
+    given_input(TABLE, five, 8, "long climbs: five short rows, 8 cores");
+    given_input(SET, eleven, 1, "long climbs: eleven rows");
+    given_input(POINT, eleven, 1, "long climbs: eleven rows");
+    given_input(TABLE, eleven, 1, "long climbs: eleven rows, 1 core");
+    given_input(TABLE, seven, 8, "long climbs: seven 1/1/1, 8 cores");
+    given_input(SET, walks, 1, "huge walks");
+    given_input(POINT, walks, 1, "huge walks");
+    given_input(TABLE, walks, 1, "huge walks, 1 core");
+}
+
+/* ---- The picture ---- */
+
+/* Prints a bar: # up to the product's cost, o at the second program's. */
+static void print_bar(struct cost cost, double scale)
+{
+    int product = (int)(cost.product * scale + 0.5), second = (int)(cost.second * scale + 0.5);
+
+    for (int at = 1; at <= product || at <= second; at++)
+        putchar(at == second ? 'o' : at <= product ? '#' : ' ');
+    putchar('\n');
+}
+
+/* The cost of the table service on 2 cores against the number of rows. */
+static void print_picture(unsigned tables)
+{
+    struct cost costs[ROWS_MAX + 1];
+    double ratio, most = 0;
+
+    printf("\nTable service on 2 cores, microseconds against rows, medians of %u: # product, o second program\n\n", tables);
+    for (unsigned count = 1; count <= ROWS_MAX; count++) {
+        costs[count] = random_inputs(TABLE, 2, count, false, tables, &ratio);
+        most = fmax(most, fmax(costs[count].product, costs[count].second));
+    }
+    printf("rows   product    second\n");
+    for (unsigned count = 1; count <= ROWS_MAX; count++) {
+        printf("%4u%10.2f%10.2f  ", count, costs[count].product, costs[count].second);
+        print_bar(costs[count], BAR / most);
+    }
+}
+
+/* Prints the table and the picture. */
+int main(int argc, char **argv)
+{
+    unsigned tables = argc > 1 ? (unsigned)strtoul(argv[1], NULL, 10) : 50;
+
+    if (argc > 2 || tables < 1 || tables > TABLES_MAX) {
+        fprintf(stderr, "usage: benchmark [TABLES], 1 to %u random tables a line\n", TABLES_MAX);
+        return 2;
+    }
+    start_random(1);
+    printf("Microseconds a call, and second / product: above 1 the product is the faster one.\n\n");
+    printf("%-6s%14s%14s%10s  %s\n", "", "product", "second", "ratio", "input");
+    print_the_four();
+    for (unsigned cores = 1; cores <= CORES_MAX; cores *= 2)
+        random_line(TABLE, cores, false, tables);
+    random_line(SET, 1, false, tables);
+    random_line(POINT, 1, false, tables < 9 ? tables : 9);
+    random_line(SET, 1, true, tables);
+    random_line(POINT, 1, true, tables < 3 ? tables : 3);
+    print_hostile();
+    print_picture(tables);
+    return 0;
+}
