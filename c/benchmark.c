@@ -12,7 +12,7 @@
 
 enum { REPORT_ROOM = 4 + 23 * ROWS_MAX, TABLES_MAX = 1000, BAR = 60 };
 
-/* A run is repeated until it takes this long; one that takes more than the second is not run as often. */
+/* Microseconds: a run has so many calls that it takes the first; after one that takes the second no other is made. */
 static const double SHORT_RUN = 2000, LONG_RUN = 200000;
 
 enum service { TABLE, SET, POINT };
@@ -73,7 +73,7 @@ static double time_calls(caller *call, enum service service, const struct input 
     return (double)(clock() - start) * 1000000 / CLOCKS_PER_SEC;
 }
 
-/* How many calls make a run, from one that is timed. */
+/* How many calls make a run. */
 static unsigned long calls_a_run(caller *call, enum service service, const struct input *input)
 {
     unsigned long calls = 1;
@@ -149,8 +149,9 @@ static bool split_utilisation(double utilisation, unsigned count, double *parts)
     return true;
 }
 
-/* Rows by UUniFast with this utilisation of the cores that they can use; periods from 100 to 100,000, each magnitude alike. */
-static void uunifast_rows(struct rows *rows, unsigned cores, unsigned count, double utilisation, bool deadline_is_period)
+/* Rows by UUniFast with this utilisation of the cores that they can use; periods from 100 to 100,000, as logarithms. */
+static void uunifast_rows(struct rows *rows, unsigned cores, unsigned count, double utilisation,
+                          bool deadline_is_period)
 {
     double parts[ROWS_MAX];
 
@@ -166,7 +167,7 @@ static void uunifast_rows(struct rows *rows, unsigned cores, unsigned count, dou
     }
 }
 
-/* Draws rows by UUniFast until the service accepts them; of so many, this one has its share of 0.5 to 0.9. */
+/* Draws rows by UUniFast until the service accepts them; their utilisation is 0.5 and this share of 0.4 more. */
 static void draw_accepted(enum service service, unsigned cores, unsigned count, bool deadline_is_period, double share,
                           struct input *input)
 {
@@ -180,10 +181,20 @@ static void draw_accepted(enum service service, unsigned cores, unsigned count, 
 
 /* ---- The table ---- */
 
+/* Prints a number in a column, with as many decimals as say something. */
+static void print_number(double number)
+{
+    printf("%12.*f", number < 0.1 ? 4 : number < 100 ? 2 : 0, number);
+}
+
 /* Prints a line of the table. */
 static void print_line(enum service service, const char *input, struct cost cost, double ratio)
 {
-    printf("%-6s%14.2f%14.2f%10.2f  %s\n", service_names[service], cost.product, cost.second, ratio, input);
+    printf("%-6s", service_names[service]);
+    print_number(cost.product);
+    print_number(cost.second);
+    print_number(ratio);
+    printf("  %s\n", input);
     fflush(stdout);
 }
 
@@ -303,14 +314,18 @@ static void print_picture(unsigned tables)
     struct cost costs[ROWS_MAX + 1];
     double ratio, most = 0;
 
-    printf("\nTable service on 2 cores, microseconds against rows, medians of %u: # product, o second program\n\n", tables);
+    printf("\nTable service on 2 cores, microseconds against rows, medians of %u: # product, o second program\n\n",
+           tables);
     for (unsigned count = 1; count <= ROWS_MAX; count++) {
         costs[count] = random_inputs(TABLE, 2, count, false, tables, &ratio);
         most = fmax(most, fmax(costs[count].product, costs[count].second));
     }
-    printf("rows   product    second\n");
+    printf("rows     product      second\n");
     for (unsigned count = 1; count <= ROWS_MAX; count++) {
-        printf("%4u%10.2f%10.2f  ", count, costs[count].product, costs[count].second);
+        printf("%4u", count);
+        print_number(costs[count].product);
+        print_number(costs[count].second);
+        printf("  ");
         print_bar(costs[count], BAR / most);
     }
 }
@@ -326,7 +341,7 @@ int main(int argc, char **argv)
     }
     start_random(1);
     printf("Microseconds a call, and second / product: above 1 the product is the faster one.\n\n");
-    printf("%-6s%14s%14s%10s  %s\n", "", "product", "second", "ratio", "input");
+    printf("%-6s%12s%12s%12s  %s\n", "", "product", "second", "ratio", "input");
     print_the_four();
     for (unsigned cores = 1; cores <= CORES_MAX; cores *= 2)
         random_line(TABLE, cores, false, tables);

@@ -1,6 +1,6 @@
-/* Runs the product and the second program, two answers to document 01 that share no line, on the document's sheets and on
- * random cases, and on small numbers a third opinion too. Compares the answer, the row and every byte lent, and stops at
- * the first that differ. Arguments: seed, number of cases. Status 0: none differ; 1: some do. */
+/* Runs the product and the second program, two answers to document 01 that share no line, on the document's sheets and
+ * on random cases, and a third opinion on small numbers too. Compares the answer, the row and every byte lent, and
+ * stops at the first that differ. Arguments: seed, number of cases. Status 0: none differ; 1: some do. */
 #include "brute.h"
 #include "hibalunduk.h"
 #include "sheets.h"

@@ -17,7 +17,8 @@
  * - Nothing is written but the report or the two answer lists, and of those only the bytes named below. The others
  *   keep their content.
  * - A refused call writes nothing.
- * - Every call ends. How long it may take stands with each service.
+ * - It takes less than 16 KiB of stack (measured).
+ * - Every call ends. The times below are measured, on a processor of about 3 GHz; c/benchmark measures them anew.
  *
  * Numbers in bytes are unsigned and big-endian. Link with target/staticlib/libentries.a (c/build does).
  */
@@ -65,13 +66,14 @@ struct hibalunduk_answer {
  * kind 2 unchanged, then a kind 3 for each row in table order, then kind 4: 4 + 23 n bytes at the front of `report`.
  *
  * Refusals: 1 to 5 as the records are read from the front, the first fault decides. A kind byte is looked at before
- * its body, a 25th kind 2 is refused (3) before its body, a row's limits (4) as soon as its body is there; at kind 4 the
- * order is cut short (1), no rows (3), count (5), bytes after (1). Then 7, then 6. Never 8.
+ * its body, a 25th kind 2 is refused (3) before its body, a row's limits (4) as soon as its body is there; at kind 4
+ * the order is cut short (1), no rows (3), count (5), bytes after (1). Then 7, then 6. Never 8.
  *
  * A table of more than HIBALUNDUK_TABLE_MAX bytes is always refused, and its first HIBALUNDUK_TABLE_MAX + 1 bytes get
  * the same answer, so no longer buffer is needed to read one.
  *
- * Time: @TABLE_TIME@
+ * Time: microseconds for a few rows, about ten milliseconds for 24 rows on one core, less on more cores. The slowest
+ * table found, made of rows with very many scheduling points on one core, takes 0.7 seconds.
  */
 struct hibalunduk_answer hibalunduk_table(const uint8_t *table, size_t table_len,
                                           uint8_t *report, size_t report_len);
@@ -84,7 +86,8 @@ struct hibalunduk_answer hibalunduk_table(const uint8_t *table, size_t table_len
  * Refusals, in this order: 3 when c_len, d_len and t_len are not one and the same multiple of four from 4 to
  * HIBALUNDUK_LIST_MAX; 4; 7 when an answer list is shorter than c_len; 8. Never 1, 2, 5 or 6.
  *
- * Time: @SET_TIME@
+ * Time: microseconds for a few rows, below a millisecond for 24. The slowest lists found, short rows that leave next to
+ * nothing of the core and slow rows below them, take 0.8 seconds.
  */
 struct hibalunduk_answer hibalunduk_set(const uint8_t *c, size_t c_len,
                                         const uint8_t *d, size_t d_len,
@@ -95,7 +98,7 @@ struct hibalunduk_answer hibalunduk_set(const uint8_t *c, size_t c_len,
 /* The point service: takes, fills and refuses as the set service does, and answers the same on every call; its
  * allowances are found by the point formula.
  *
- * Time: @POINT_TIME@
+ * Time: microseconds for a few rows, some milliseconds for 24. The slowest lists found take 0.2 seconds.
  */
 struct hibalunduk_answer hibalunduk_point(const uint8_t *c, size_t c_len,
                                           const uint8_t *d, size_t d_len,
