@@ -8,17 +8,18 @@
  * - A pointer has at least as many bytes behind it as the length after it says. It is not null, not even where
  *   the length is 0.
  * - No two of a call's byte strings share a byte, and nothing else writes to them during the call.
- * Beyond that every call is allowed: any bytes, any lengths. What is said below holds of every such call, and is
- * proved.
+ * Beyond that every call is allowed: any bytes, any lengths. What a service answers and writes, and that it ends, is
+ * proved of its code for every such call.
  *
  * What a caller can rely on:
  * - The answer and the bytes written depend on nothing but the arguments. There is nothing to initialise, nothing
- *   is kept between calls, nothing is allocated, no system call is made. Any number of threads may call at once.
+ *   is kept between calls, nothing is allocated. The library has no data of its own and needs of C's nothing but
+ *   memcpy and memset. Any number of threads may call at once.
  * - Nothing is written but the report or the two answer lists, and of those only the bytes named below. The others
  *   keep their content.
  * - A refused call writes nothing.
  * - It takes less than 16 KiB of stack (measured).
- * - Every call ends. The times below are measured, on a processor of about 3 GHz; c/benchmark measures them anew.
+ * - A call takes as long as is said below (measured, on a processor of 2 GHz; c/benchmark measures it anew).
  *
  * Numbers in bytes are unsigned and big-endian. Link with target/staticlib/libentries.a (c/build does).
  */
@@ -44,14 +45,15 @@ enum {
 
 /* An answer: number 0 and row 0 when accepted, else the refusal's number, and its row or 0.
  *
- *   1  a record is cut short or missing, a kind is not allowed at its place, bytes follow kind 4     row 0
- *   2  the number of cores is 0 or above 8                                                         row 0
- *   3  no rows or a 25th row; lists of unequal length, or of a length not a multiple of four       row 0
- *   4  a row breaks 1 <= C <= D <= T <= 1,000,000                                     the first such row
- *   5  kind 4 states another count of rows than was read                                           row 0
- *   6  no core takes a row in the placement (another placement may exist)                       that row
- *   7  the report or an answer list is shorter than the answer                                     row 0
- *   8  a row misses its deadline                                          the highest-ranked such row
+ *   No.  Row                 Given when
+ *   1    0                   a record is cut short or missing, a kind is not allowed at its place, bytes follow kind 4
+ *   2    0                   the number of cores is 0 or above 8
+ *   3    0                   no rows or a 25th row; lists of unequal length, or of a length not a multiple of four
+ *   4    the first           a row breaks 1 <= C <= D <= T <= 1,000,000
+ *   5    0                   kind 4 states another count of rows than was read
+ *   6    that row            no core takes a row in the placement; another placement may exist
+ *   7    0                   the report or an answer list is shorter than the answer
+ *   8    the highest-ranked  a row misses its deadline
  */
 struct hibalunduk_answer {
     uint32_t number;
