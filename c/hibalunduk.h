@@ -74,7 +74,7 @@ struct hibalunduk_answer {
  * A table of more than HIBALUNDUK_TABLE_MAX bytes is always refused, and its first HIBALUNDUK_TABLE_MAX + 1 bytes get
  * the same answer, so no longer buffer is needed to read one.
  *
- * Time: microseconds for a few rows, about ten milliseconds for 24 rows on one core, less on more cores. The slowest
+ * Time: microseconds for a few rows, about five milliseconds for 24 rows on one core, less on more cores. The slowest
  * table found, made of rows with very many scheduling points on one core, takes 0.3 seconds.
  */
 struct hibalunduk_answer hibalunduk_table(const uint8_t *table, size_t table_len,
