@@ -31,6 +31,7 @@ pub mod Bound
 pub mod Allowance
 pub mod Trial
 pub mod CoreAllowance
+pub mod Shortest
 pub mod Utilisation
 pub mod DemandThree
 pub mod Lists
