@@ -4,7 +4,7 @@ use Prim.Native.Nat.{ℕ, zero, suc}
 use mathlib.Core.List.{List, [], _∷_}
 use native.Mathlib.Omega.{arith}
 use lib.ListN.{length, getD}
-use Rattle.placement.specs.Figures.{Figures, figuresFrom, figuresAt}
+use Rattle.placement.specs.Figures.{figuresFrom, figuresAt}
 
 -- as many as the cores, where the lists have one length
 pub figures-from-length : (cores responses allowances : List ℕ) → length responses ≡ length cores → length allowances ≡ length cores
