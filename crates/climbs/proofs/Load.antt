@@ -33,7 +33,7 @@ pub load-of-mono : (own : ℕ) (cs ts : List ℕ) (s t : ℕ) → s ≤ t → lo
 load-of-mono own cs ts s t h = omega (arith, demand-of-mono cs ts s t h)
 
 -- the entries of a list at places
-abbrev entriesAt : List ℕ → List ℕ → List ℕ
+abbrev pub entriesAt : List ℕ → List ℕ → List ℕ
 entriesAt xs hs = map (λ h. getD xs h 0) hs
 
 -- the entries of a list for the rivals of row k, by rank: their C of the list of C, their T of the list of T
@@ -47,7 +47,7 @@ demand-of-entries cs ts [] t = refl
 demand-of-entries cs ts (h ∷ hs) t = omega (arith, demand-of-entries cs ts hs t)
 
 -- an entry of the entries
-entry-at : (xs hs : List ℕ) (j : ℕ) → j < length hs → getD (entriesAt xs hs) j 0 ≡ getD xs (getD hs j 0) 0
+pub entry-at : (xs hs : List ℕ) (j : ℕ) → j < length hs → getD (entriesAt xs hs) j 0 ≡ getD xs (getD hs j 0) 0
 entry-at xs [] j inside = absurd (omega arith)
 entry-at xs (h ∷ hs) zero inside = refl
 entry-at xs (h ∷ hs) (suc j) inside = entry-at xs hs j (omega arith)

@@ -1,4 +1,4 @@
--- One entry more stored in an array: behind those that stand at its front, and behind those that stand after one free entry.
+-- One entry more stored in an array, behind those that stand after one free entry.
 use mathlib.Core.Path.{_≡_, sym, ap, _∙_}
 use Prim.Native.Nat.{ℕ, _+_, _<_}
 use mathlib.Core.List.{List, [], _∷_, _++_, map, map-append}
@@ -8,15 +8,6 @@ use lib.ListN.{length, getD, take, drop, set, length-take}
 use lib.Seq.{take-suc, take-suc-set, drop-append-le}
 
 module _ (xs places : List ℕ) (j : ℕ) (more : j < length places) where
-  -- the next number that a function gives at the places
-  pub gathered-next : (f : ℕ → ℕ) → j < length xs → take j xs ≡ map f (take j places) → take (j + 1) (set xs j (f (getD places j 0))) ≡ map f (take (j + 1) places)
-  gathered-next f room same =
-      let h = getD places j 0 in
-      rw (add-one j)
-      (take-suc-set xs j (f h) room
-      ∙ ap (λ (ys : List ℕ). ys ++ (f h ∷ [])) same
-      ∙ sym (ap (map f) (take-suc places j 0 more) ∙ map-append f (take j places) (h ∷ [])))
-
   -- the next place, one entry further
   pub copied-next : j + 1 < length xs → drop 1 (take (j + 1) xs) ≡ take j places → drop 1 (take (j + 1 + 1) (set xs (j + 1) (getD places j 0))) ≡ take (j + 1) places
   copied-next room same =

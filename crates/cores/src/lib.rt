@@ -8,23 +8,6 @@ ghost use Rattle.theory.specs.Gather.{insert};
 ghost use Rattle.theory.proofs.Each.{All};
 ghost use Rattle.cores.specs.Cores.{HoldsCores, HeldWithout};
 
-// The numbers at places, at the front.
-pub fn gather(numbers: &[u32], places: &[usize]) -> [u32; 24]
-    requires { ⌜ length (now places) ≤ 24 ⌝ }
-    requires { ⌜ All (λ h. h < length (now numbers)) (now places) ⌝ }
-    ensures { λ r. ⌜ take (length (now (places .entry))) r ≡ map (λ h. getD (now (numbers .entry)) h 0) (now (places .entry)) ⌝ }
-    ensures { λ r. ⌜ length r ≡ 24 ⌝ }
-{
-    let mut front = [0u32; 24];
-    let mut j = 0;
-    while j < places.len() {
-        let h = places[j];
-        front[j] = numbers[h];
-        j += 1;
-    }
-    front
-}
-
 // Places behind one entry that is free.
 fn behind_one(places: &[usize]) -> [usize; 24]
     requires { ⌜ length (now places) < 24 ⌝ }

@@ -64,9 +64,9 @@ fn write_at(
     if n == 0 {
         return;
     }
-    let cs = cores::gather(c, places);
-    let ds = cores::gather(d, places);
-    let ts = cores::gather(t, places);
+    let cs = climbs::gather(c, places);
+    let ds = climbs::gather(d, places);
+    let ts = climbs::gather(t, places);
     write_core(&cs[..n], &ds[..n], &ts[..n], places, responses, allowances);
 }
 

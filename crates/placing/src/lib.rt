@@ -25,9 +25,9 @@ fn fit_at(c: &[u32], d: &[u32], t: &[u32], places: &[usize]) -> Fit
     ensures { λ r. ⌜ IsFit (map (rowAt (rowsOf (now (c .entry)) (now (d .entry)) (now (t .entry)))) (now (places .entry))) r ⌝ }
 {
     let n = places.len();
-    let cs = cores::gather(c, places);
-    let ds = cores::gather(d, places);
-    let ts = cores::gather(t, places);
+    let cs = climbs::gather(c, places);
+    let ds = climbs::gather(d, places);
+    let ts = climbs::gather(t, places);
     fits::fit_of(&cs[..n], &ds[..n], &ts[..n])
 }
 
