@@ -1,9 +1,9 @@
 -- Where a row's climb may start when the rows stand by rank: its own time after the response time of the row before it.
-use mathlib.Core.Path.{_≡_, sym, ap, _∙_}
+use mathlib.Core.Path.{_≡_}
 use Prim.Native.Nat.{ℕ, zero, suc, _+_, _-_, _*_, _≤_, _<_}
 use mathlib.Core.List.{List, [], _∷_, _++_}
 use native.Mathlib.Omega.{arith}
-use native.Mathlib.Nat.{le-refl, mul-le-mul-right}
+use native.Mathlib.Nat.{mul-le-mul-right}
 use lib.ListN.{length, getD, take, length-take}
 use lib.Seq.{take-suc, getD-take}
 use Rattle.theory.specs.Response.{ceil}

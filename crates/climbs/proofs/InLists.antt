@@ -25,6 +25,9 @@ module _ (cs ds ts : List ℕ) (shaped : Shaped cs ds ts) where
   pub execution-of : (k : ℕ) → rowAt (rowsOf cs ds ts) k .C ≡ getD cs k 0
   execution-of k = ap (λ (r : Row). r .C) (row-of-lists cs ds ts (shaped .as-many-deadlines) (shaped .as-many-periods) k)
 
+  pub period-of : (k : ℕ) → rowAt (rowsOf cs ds ts) k .T ≡ getD ts k 0
+  period-of k = ap (λ (r : Row). r .T) (row-of-lists cs ds ts (shaped .as-many-deadlines) (shaped .as-many-periods) k)
+
   pub in-rows : {k : ℕ} → k < length cs → k < length (rowsOf cs ds ts)
   in-rows h = omega (arith, rows-of-length cs ds ts (shaped .as-many-deadlines) (shaped .as-many-periods))
 
