@@ -38,7 +38,7 @@ raise-asked : (c : tie.After-jobs Inv-loop μ-loop) → c .before .before .befor
 raise-asked c =
     let start = c .before .before .before .before .before .before .before in
     let period = start .pre .1 .1 .0 in
-    rw (c .jobs .ensures) (raise-small (start .args .more) (start .args .period) (c .before .before .before .before .loop .at) (period .0) (period .1) (period .2) (omega arith))
+    rw (c .jobs .ensures) (raise-small (start .args .more) (start .args .period) _ (period .0) (period .1) (period .2) (omega arith))
 
 mul-next : tie.Need-mul-next Inv-loop μ-loop
 mul-next c = omega (arith, raise-asked c)
@@ -66,14 +66,14 @@ loop-again c =
     (λ e. c .if3 .left (sym (next-is-load (c .before)) ∙ e)))
 
 returns : tie.Need-returns Inv-loop μ-loop
-returns c = passed-misses (c .before .loop .inv .starts) (c .if1 .taken)
+returns c = passed-misses (c .before .loop .inv .starts) (omega arith)
 
 returns-2 : tie.Need-returns-2 Inv-loop μ-loop
-returns-2 c = rounds-run-out (c .before .before .loop .inv) (c .if2 .taken) (c .before .if1 .left)
+returns-2 c = rounds-run-out (c .before .before .loop .inv) (omega arith) (omega arith)
 
 returns-3 : tie.Need-returns-3 Inv-loop μ-loop
 returns-3 c =
-    repeated-responds (c .before .before .before .before .before .loop .inv .starts) (c .before .before .before .before .if1 .left) (next-is-load (c .before) ∙ c .if3 .taken)
+    repeated-responds (c .before .before .before .before .before .loop .inv .starts) (omega arith) (next-is-load (c .before) ∙ c .if3 .taken)
 
 pub climb-raised-spec : {M : Type 1} → statement M
 climb-raised-spec =

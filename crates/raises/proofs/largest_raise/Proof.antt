@@ -30,8 +30,11 @@ enum-told-2 c = search needs
 halve-requires : tie.Need-halve-requires
 halve-requires c κs =
     let start = c .before .before .before .before .before in
+    let row = start .args in
     let pre = start .pre in
-    (pre .0, (pre .1 .0, (pre .1 .1 .0, ((least-with-none start, pre .1 .1 .1 .1), none-by (rw (c .enum-told2 .given .1) at (c .before .before .climb-raised .ensures))))))
+    let load = raisedLoad (row .own) (row .c .now) (row .t .now) (row .period) in
+    let misses = none-by {next = load (row .most)} (rw (c .enum-told2 .given .1) at (c .before .before .climb-raised .ensures)) in
+    (pre .0, (pre .1 .0, (pre .1 .1 .0, ((least-with-none start, pre .1 .1 .1 .1), misses))))
 
 enum-told-3 : tie.Need-enum-told-3
 enum-told-3 c = search needs
