@@ -26,13 +26,22 @@ pub fn responses_of(c: &[u32], d: &[u32], t: &[u32], order: &[usize; 24]) -> Fou
     ensures { λ r. ⌜ IsVerdict (rowsOf (now (c .entry)) (now (d .entry)) (now (t .entry))) (r .response) (r .verdict) ⌝ }
     ensures { λ r. ⌜ length (r .response) ≡ 24 ⌝ }
 {
+    let n = c.len();
+    let places: &[usize] = order;
+    let by_rank = &places[..n];
+    let cs = climbs::gather(c, by_rank);
+    let ts = climbs::gather(t, by_rank);
     let mut response = [0u32; 24];
+    // The response time of the row before.
+    let mut before = 0;
     let mut j = 0;
-    while j < c.len() {
+    while j < n {
         let k = order[j];
-        match climbs::climb_row(c, d, t, order, k, 1) {
+        let own = cs[j];
+        match climbs::climb_from(before + own, d[k], own, &cs[..j], &ts[..j]) {
             Climb::Responds(r) => {
                 response[k] = r;
+                before = r;
             }
             Climb::Misses => {
                 return Found {

@@ -1,96 +1,176 @@
--- `responses::responses_of` meets its contract. The loop's invariant: the first j rows by rank have their response times.
+-- `responses::responses_of` meets its contract. The loop's invariant: the first j rows by rank have their response times, and `before` is that of the last of
+-- them. C and T of the rows stand by rank in two arrays.
 use mathlib.Core.Path.{_≡_, refl, sym, ap, subst}
-use Prim.Native.Nat.{ℕ, _+_, _-_, _<_}
+use Prim.Native.Nat.{ℕ, _+_, _-_, _≤_, _<_}
 use native.Mathlib.Omega.{arith}
 use borrow.Author.Needs.{needs}
-use lib.ListN.{length, getD, set}
+use lib.ListN.{length, getD, take, set, length-take}
 use Rattle.theory.specs.Row.{rowAt}
 use Rattle.theory.specs.Response.{Outcome, load, responds, misses, FirstMiss}
 use Rattle.theory.specs.Climb.{Climbed}
 use Rattle.theory.specs.Lists.{rowsOf, Shaped}
-use Rattle.theory.proofs.Response.{start-at-one}
+use Rattle.theory.proofs.Each.{All, all-map}
 use Rattle.climbs.specs.Climb.{outcomeOf}
-use Rattle.climbs.proofs.InLists.{in-rows, climb-said, ranked, order-ranked, order-in-lists}
+use Rattle.climbs.proofs.Load.{limits-at}
+use Rattle.climbs.proofs.Held.{ranked-long}
+use Rattle.climbs.proofs.InLists.{ranked, order-ranked, order-in-lists}
+use Rattle.climbs.proofs.AtRank.{gathered-in-rank-order}
 use Rattle.responses.proofs.Answering.{Answering, answering-begins, answering-more, answering-stops, answering-ends}
+use Rattle.responses.proofs.Following.{StandByRank, Following, places-of-rows, following-begins, execution-within, small-before, start-following, climbed-following, following-more}
 use Rattle.responses.proofs.responses_of.Statement.{statement}
 use Rattle.responses.proofs.responses_of.Tie as tie
 
 abbrev Inv-loop : tie.InvT-loop
-Inv-loop c d t order response₀ j₀ response j = (shaped : Shaped c d t) → Answering c d t shaped response j
+Inv-loop c d t order n cs ts response₀ before₀ j₀ response before j = (shaped : Shaped c d t) → Answering c d t shaped response j × Following cs ts j before
 
 abbrev μ-loop : tie.MeasureT-loop
-μ-loop c d t order response₀ j₀ response j = length c - j
+μ-loop c d t order n cs ts response₀ before₀ j₀ response before j = length c - j
+
+slice-aggregate-by-rank : tie.Need-slice-aggregate-by-rank Inv-loop μ-loop
+slice-aggregate-by-rank c =
+    let start = c .before .before .before .before .before in
+    let lists = start .args in
+    omega (arith, length-take (length (lists .c .now)) (lists .order .now), ranked-long (lists .c .now) (lists .d .now) (lists .order .now) (start .pre .0 .0 .as-many-deadlines) (start .pre .1))
+
+-- the places of the order, one for each row, are rows'
+places : (c : tie.After-by-rank Inv-loop μ-loop)
+    → let lists = c .before .before .before .before .before .args in
+    let first = take (length (lists .c .now)) (lists .order .now) in
+    (length first ≤ 24) × All (λ h. h < length (lists .c .now)) first
+places c =
+    let start = c .before .before .before .before .before in
+    places-of-rows (start .args .c .now) (start .args .d .now) (start .args .t .now) (start .pre .0 .0) (start .args .order .now) (start .pre .1)
+
+gather-requires : tie.Need-gather-requires Inv-loop μ-loop
+gather-requires c κs = places c
+
+gather-requires-2 : tie.Need-gather-requires-2 Inv-loop μ-loop
+gather-requires-2 c κs =
+    let start = c .before .before .before .before .before .before in
+    let shaped = start .pre .0 .0 in
+    (places (c .before) .0, all-map (take (length (start .args .c .now)) (start .args .order .now)) (λ h in-c. omega (arith, shaped .as-many-deadlines, shaped .as-many-periods)) (places (c .before) .1))
+
+-- C and T of the rows stand by rank
+stand : (c : tie.After-gather2 Inv-loop μ-loop) → let lists = c .before .before .before .before .before .before .before .args in StandByRank (lists .c .now) (lists .d .now) (lists .t .now) (c .before .gather .result) (c .gather2 .result)
+stand c =
+    let start = c .before .before .before .before .before .before .before in
+    let lists = start .args in
+    let many = sym (start .pre .0 .0 .as-many-deadlines) in
+    record {
+      by-C = gathered-in-rank-order (lists .d .now) (lists .order .now) (lists .c .now) (c .before .gather .result) (length (lists .c .now)) many (start .pre .1) (c .before .gather .ensures .0);
+      by-T = gathered-in-rank-order (lists .d .now) (lists .order .now) (lists .t .now) (c .gather2 .result) (length (lists .c .now)) many (start .pre .1) (c .gather2 .ensures .0);
+      executions-long = c .before .gather .ensures .1;
+      periods-long = c .gather2 .ensures .1;
+    }
 
 loop-holds : tie.Need-loop-holds Inv-loop μ-loop
-loop-holds c = λ shaped. answering-begins (c .before .before .before .args .c .now) (c .before .before .before .args .d .now) (c .before .before .before .args .t .now) shaped _ refl
+loop-holds c = λ shaped.
+    let lists = c .before .before .before .before .before .before .before .args in
+    (answering-begins (lists .c .now) (lists .d .now) (lists .t .now) shaped _ refl, following-begins (c .before .gather .result) (c .gather2 .result))
 
 mul-k : tie.Need-mul-k Inv-loop μ-loop
-mul-k c = omega (arith, c .before .before .before .before .before .pre .0 .0 .no-25th)
+mul-k c = omega (arith, c .before .before .before .before .before .before .before .before .before .pre .0 .0 .no-25th)
 
 element-copy-out-k : tie.Need-element-copy-out-k Inv-loop μ-loop
-element-copy-out-k c = omega (arith, c .before .before .before .before .before .pre .0 .0 .no-25th)
+element-copy-out-k c = omega (arith, c .before .before .before .before .before .before .before .before .before .pre .0 .0 .no-25th)
+
+mul-own : tie.Need-mul-own Inv-loop μ-loop
+mul-own c = omega (arith, c .before .before .before .before .before .before .before .before .before .before .pre .0 .0 .no-25th)
+
+array-read-own : tie.Need-array-read-own Inv-loop μ-loop
+array-read-own c = omega (arith, c .before .before .before .before .before .before .before .before .before .before .pre .0 .0 .no-25th)
 
 -- the row that a turn takes, by its rank
 row-ranked :
     (c : tie.After-k Inv-loop μ-loop)
-    → let start = c .before .before .before .before .before .before in let j = c .before .before .loop .j in getD (start .args .order .now) j 0 ≡ ranked (start .args .c .now) (start .args .d .now) (start .args .t .now) (start .pre .0 .0) j
+    → let start = c .before .before .before .before .before .before .before .before .before .before in let j = c .before .before .loop .j in getD (start .args .order .now) j 0 ≡ ranked (start .args .c .now) (start .args .d .now) (start .args .t .now) (start .pre .0 .0) j
 row-ranked c =
-    let start = c .before .before .before .before .before .before in
+    let start = c .before .before .before .before .before .before .before .before .before .before in
     order-ranked (start .args .c .now) (start .args .d .now) (start .args .t .now) (start .pre .0 .0) (start .args .order .now) (start .pre .1) (c .before .before .loop .j) (omega arith)
 
 -- it is in the lists
-row-inside :
-    (c : tie.After-k Inv-loop μ-loop)
-    → let start = c .before .before .before .before .before .before in getD (start .args .order .now) (c .before .before .loop .j) 0 < length (start .args .c .now)
+row-inside : (c : tie.After-k Inv-loop μ-loop) → let start = c .before .before .before .before .before .before .before .before .before .before in getD (start .args .order .now) (c .before .before .loop .j) 0 < length (start .args .c .now)
 row-inside c =
-    let start = c .before .before .before .before .before .before in
+    let start = c .before .before .before .before .before .before .before .before .before .before in
     order-in-lists (start .args .c .now) (start .args .d .now) (start .args .t .now) (start .pre .0 .0) (start .args .order .now) (start .pre .1) (c .before .before .loop .j) (omega arith)
 
--- what its climb said, by its rank
-climb-of-turn :
-    (c : tie.After-climb-row Inv-loop μ-loop)
-    → (outcome : Outcome)
-    → outcomeOf (c .climb-row .result) ≡ outcome
-    → let start = c .before .before .before .before .before .before .before in
-    let rows = rowsOf (start .args .c .now) (start .args .d .now) (start .args .t .now) in
-    let k = ranked (start .args .c .now) (start .args .d .now) (start .args .t .now) (start .pre .0 .0) (c .before .before .before .loop .j) in
-    Climbed (load rows k) (rowAt rows k .D) outcome
-climb-of-turn c outcome said =
-    let start = c .before .before .before .before .before .before .before in
+-- its C is at most a million
+own-by-million : (c : tie.After-k Inv-loop μ-loop) → getD (c .before .before .before .before .gather .result) (c .before .before .loop .j) 0 ≤ 1_000_000
+own-by-million c =
+    let start = c .before .before .before .before .before .before .before .before .before .before in
+    execution-within (start .args .c .now) (start .args .d .now) (start .args .t .now) (start .pre .0 .0) (start .pre .0 .1) (c .before .before .before .before .gather .result) (c .before .before .before .gather2 .result) (stand (c .before .before .before)) (c .before .before .loop .j) (omega arith) .1
+
+add-climb-from : tie.Need-add-climb-from Inv-loop μ-loop
+add-climb-from c = omega (arith, own-by-million c, c .before .before .loop .inv (c .before .before .before .before .before .before .before .before .before .before .pre .0 .0) .1 .by-million)
+
+mul-climb-from : tie.Need-mul-climb-from Inv-loop μ-loop
+mul-climb-from c = omega (arith, row-inside c, c .before .before .before .before .before .before .before .before .before .before .pre .0 .0 .no-25th)
+
+shared-slice-read-climb-from : tie.Need-shared-slice-read-climb-from Inv-loop μ-loop
+shared-slice-read-climb-from c = omega (arith, row-inside (c .before), c .before .before .before .before .before .before .before .before .before .before .before .pre .0 .0 .as-many-deadlines)
+
+array-share-prefix-cs : tie.Need-array-share-prefix-cs Inv-loop μ-loop
+array-share-prefix-cs c = omega (arith, stand (c .before .before .before .before) .executions-long, c .before .before .before .before .before .before .before .before .before .before .before .pre .0 .0 .no-25th)
+
+slice-aggregate-climb-from : tie.Need-slice-aggregate-climb-from Inv-loop μ-loop
+slice-aggregate-climb-from c = omega (arith, length-take (c .before .before .before .before .loop .j) (c .before .before .before .before .before .before .gather .result), stand (c .before .before .before .before .before) .executions-long, c .before .before .before .before .before .before .before .before .before .before .before .before .pre .0 .0 .no-25th)
+
+array-share-prefix-ts : tie.Need-array-share-prefix-ts Inv-loop μ-loop
+array-share-prefix-ts c = omega (arith, stand (c .before .before .before .before .before) .periods-long, c .before .before .before .before .before .before .before .before .before .before .before .before .pre .0 .0 .no-25th)
+
+slice-aggregate-climb-from-2 : tie.Need-slice-aggregate-climb-from-2 Inv-loop μ-loop
+slice-aggregate-climb-from-2 c = omega (arith, length-take (c .before .before .before .before .before .loop .j) (c .before .before .before .before .before .before .gather2 .result), stand (c .before .before .before .before .before .before) .periods-long, c .before .before .before .before .before .before .before .before .before .before .before .before .before .pre .0 .0 .no-25th)
+
+climb-from-requires : tie.Need-climb-from-requires Inv-loop μ-loop
+climb-from-requires c κs =
+    let start = c .before .before .before .before .before .before .before .before .before .before .before .before .before in
     let cs = start .args .c .now in
     let ds = start .args .d .now in
     let ts = start .args .t .now in
-    let row = getD (start .args .order .now) (c .before .before .before .loop .j) 0 in
-    subst (λ (k : ℕ). Climbed (load (rowsOf cs ds ts) k) (rowAt (rowsOf cs ds ts) k .D) outcome) (row-ranked (c .before))
-    (climb-said cs ds ts (start .pre .0 .0) (load (rowsOf cs ds ts) row) row (c .climb-row .result) outcome said (c .climb-row .ensures))
+    let shaped = start .pre .0 .0 in
+    let within = start .pre .0 .1 in
+    let turn = c .before .before .before .before .before .loop in
+    let executions = c .before .before .before .before .before .before .before .gather .result in
+    let periods = c .before .before .before .before .before .before .gather2 .result in (
+      small-before cs ds ts shaped within executions periods (stand (c .before .before .before .before .before .before)) (turn .j) (omega arith),
+      (
+        (omega (arith, limits-at cs ds ts shaped within (getD (start .args .order .now) (turn .j) 0) (row-inside (c .before .before .before))), own-by-million (c .before .before .before)),
+        start-following cs ds ts shaped within executions periods (stand (c .before .before .before .before .before .before)) (turn .j) (omega arith) (turn .before) (turn .inv shaped .1),
+      ),
+    )
 
-climb-row-requires : tie.Need-climb-row-requires Inv-loop μ-loop
-climb-row-requires c κs =
-    let start = c .before .before .before .before .before .before in
-    let pre = start .pre in
+-- what its climb said, by its rank
+climb-of-turn :
+    (c : tie.After-climb-from Inv-loop μ-loop)
+    → (outcome : Outcome)
+    → outcomeOf (c .climb-from .result) ≡ outcome
+    → let start = c .before .before .before .before .before .before .before .before .before .before .before .before .before .before in
     let rows = rowsOf (start .args .c .now) (start .args .d .now) (start .args .t .now) in
-    let row = getD (start .args .order .now) (c .before .before .loop .j) 0 in
-    let in-set = in-rows (start .args .c .now) (start .args .d .now) (start .args .t .now) (pre .0 .0) (row-inside c) in
-    (pre .0, (pre .1, (row-inside c, start-at-one rows row (pre .0 .1 row in-set .runs))))
+    let k = ranked (start .args .c .now) (start .args .d .now) (start .args .t .now) (start .pre .0 .0) (c .before .before .before .before .before .before .loop .j) in
+    Climbed (load rows k) (rowAt rows k .D) outcome
+climb-of-turn c outcome said =
+    let start = c .before .before .before .before .before .before .before .before .before .before .before .before .before .before in
+    climbed-following (start .args .c .now) (start .args .d .now) (start .args .t .now) (start .pre .0 .0) (start .pre .0 .1) (c .before .before .before .before .before .before .before .before .gather .result) (c .before .before .before .before .before .before .before .gather2 .result) (stand (c .before .before .before .before .before .before .before)) (c .before .before .before .before .before .before .loop .j) (omega arith) outcome
+    (rw (row-ranked (c .before .before .before .before), said) at (c .climb-from .ensures))
 
 enum-known-r : tie.Need-enum-known-r Inv-loop μ-loop
 enum-known-r c = search needs
 
 mul-response : tie.Need-mul-response Inv-loop μ-loop
-mul-response c = omega (arith, row-inside (c .before .before .before .before), c .before .before .before .before .before .before .before .before .before .before .pre .0 .0 .no-25th)
+mul-response c = omega (arith, row-inside (c .before .before .before .before .before .before .before), c .before .before .before .before .before .before .before .before .before .before .before .before .before .before .before .before .before .pre .0 .0 .no-25th)
 
 array-write-response : tie.Need-array-write-response Inv-loop μ-loop
-array-write-response c = omega (arith, row-inside (c .before .before .before .before), c .before .before .before .before .before .before .before .before .before .before .pre .0 .0 .no-25th)
+array-write-response c = omega (arith, row-inside (c .before .before .before .before .before .before .before), c .before .before .before .before .before .before .before .before .before .before .before .before .before .before .before .before .before .pre .0 .0 .no-25th)
 
 enum-told : tie.Need-enum-told Inv-loop μ-loop
 enum-told c = search needs
 
 returns : tie.Need-returns Inv-loop μ-loop
 returns c =
-    let start = c .before .before .before .before .before .before .before .before .before in
-    let turn = c .before .before .before .before .before .loop in
-    let so-far = turn .inv (start .pre .0 .0) in (
-      subst (FirstMiss (rowsOf (start .args .c .now) (start .args .d .now) (start .args .t .now))) (sym (row-ranked (c .before .before .before)))
+    let start = c .before .before .before .before .before .before .before .before .before .before .before .before .before .before .before .before in
+    let turn = c .before .before .before .before .before .before .before .before .loop in
+    let so-far = turn .inv (start .pre .0 .0) .0 in (
+      subst (FirstMiss (rowsOf (start .args .c .now) (start .args .d .now) (start .args .t .now))) (sym (row-ranked (c .before .before .before .before .before .before)))
           (answering-stops (start .args .c .now) (start .args .d .now) (start .args .t .now) (start .pre .0 .0) (turn .response) (turn .j) so-far (omega arith)
           (climb-of-turn (c .before .before) misses (ap outcomeOf (c .enum-told .given .1)))),
       so-far .long,
@@ -104,17 +184,23 @@ loop-less c = omega arith
 
 loop-again : tie.Need-loop-again Inv-loop μ-loop
 loop-again c = λ shaped.
-    let start = c .before .before .before .before .before .before .before .before .before .before in
-    let turn = c .before .before .before .before .before .before .loop in
+    let start = c .before .before .before .before .before .before .before .before .before .before .before .before .before .before .before .before .before in
+    let cs = start .args .c .now in
+    let ds = start .args .d .now in
+    let ts = start .args .t .now in
+    let turn = c .before .before .before .before .before .before .before .before .before .loop in
     let r = c .before .r .given .0 .0 in
-    subst (λ (k : ℕ). Answering (start .args .c .now) (start .args .d .now) (start .args .t .now) shaped (set (turn .response) k r) (turn .j + 1)) (sym (row-ranked (c .before .before .before .before)))
-    (answering-more (start .args .c .now) (start .args .d .now) (start .args .t .now) shaped (turn .response) (turn .j) (turn .inv shaped) (omega arith) r
-    (climb-of-turn (c .before .before .before) (responds r) (ap outcomeOf (c .before .r .given .1))))
+    let climbed = climb-of-turn (c .before .before .before) (responds r) (ap outcomeOf (c .before .r .given .1)) in (
+      subst (λ (k : ℕ). Answering cs ds ts shaped (set (turn .response) k r) (turn .j + 1)) (sym (row-ranked (c .before .before .before .before .before .before .before)))
+          (answering-more cs ds ts shaped (turn .response) (turn .j) (turn .inv shaped .0) (omega arith) r climbed),
+      following-more cs ds ts shaped (start .pre .0 .1) (c .before .before .before .before .before .before .before .before .before .before .before .gather .result) (c .before .before .before .before .before .before .before .before .before .before .gather2 .result) (stand (c .before .before .before .before .before .before .before .before .before .before)) (turn .j) (omega arith) r climbed,
+    )
 
 returns-2 : tie.Need-returns-2 Inv-loop μ-loop
 returns-2 c =
-    let start = c .before .before .before .before .before in
-    (answering-ends (start .args .c .now) (start .args .d .now) (start .args .t .now) (start .pre .0 .0) (c .before .loop .response) (c .before .loop .j) (c .before .loop .inv (start .pre .0 .0)) (omega arith), c .before .loop .inv (start .pre .0 .0) .long)
+    let start = c .before .before .before .before .before .before .before .before .before in
+    let so-far = c .before .loop .inv (start .pre .0 .0) .0 in
+    (answering-ends (start .args .c .now) (start .args .d .now) (start .args .t .now) (start .pre .0 .0) (c .before .loop .response) (c .before .loop .j) so-far (omega arith), so-far .long)
 
 pub responses-of-spec : {M : Type 1} → statement M
 responses-of-spec =
@@ -122,10 +208,22 @@ responses-of-spec =
     (tie.spec
     Inv-loop
     μ-loop
+    slice-aggregate-by-rank
+    gather-requires
+    gather-requires-2
     loop-holds
     mul-k
     element-copy-out-k
-    climb-row-requires
+    mul-own
+    array-read-own
+    add-climb-from
+    mul-climb-from
+    shared-slice-read-climb-from
+    array-share-prefix-cs
+    slice-aggregate-climb-from
+    array-share-prefix-ts
+    slice-aggregate-climb-from-2
+    climb-from-requires
     enum-known-r
     mul-response
     array-write-response
