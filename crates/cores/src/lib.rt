@@ -1,11 +1,9 @@
-// The rows of a core, by their places in the table: gathered, joined by another, and kept for each core. Document 01, "Placement".
+// The rows of a core, by their places in the table: joined by another, and kept for each core. Document 01, "Placement".
 ghost use mathlib.Core.Path.{_≡_};
 ghost use Prim.Native.Nat.{suc, _≤_, _<_};
-ghost use mathlib.Core.List.{map};
 ghost use lib.Dec.{ltb};
-ghost use lib.ListN.{length, getD, take, drop, set};
+ghost use lib.ListN.{length, take, drop, set};
 ghost use Rattle.theory.specs.Gather.{insert};
-ghost use Rattle.theory.proofs.Each.{All};
 ghost use Rattle.cores.specs.Cores.{HoldsCores, HeldWithout};
 
 // Places behind one entry that is free.
