@@ -4,7 +4,7 @@ pub mod SmallLoad
 pub mod Rivals
 pub mod Walked
 pub mod Bounding
-pub mod Held
+pub mod AtPlace
 pub mod Touched
 pub mod Allowed
 pub mod Small

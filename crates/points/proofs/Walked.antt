@@ -51,11 +51,11 @@ module _ (cs ds ts : List ℕ) (shaped : Shaped cs ds ts) where
     as-many = length-map hs (λ h. getD ts h 0)
 
     -- the points
-    pub points-of-rivals : walk (rowsOf executions periods periods) (length hs) (getD ds k 0) ≡ points rows k
+    pub points-of-rivals : walk (rowsOf executions periods periods) (length executions) (getD ds k 0) ≡ points rows k
     unfolding points
     points-of-rivals =
-        walk-by-periods (rowsOf executions periods periods) (map (rowAt rows) hs) same (length hs) (getD ds k 0)
-        ∙ ap₂ (λ (n t : ℕ). walk (map (rowAt rows) hs) n t) (sym (length-map hs (rowAt rows))) (sym (ap (λ (row : Row). row .D) (row-at k)))
+        walk-by-periods (rowsOf executions periods periods) (map (rowAt rows) hs) same (length executions) (getD ds k 0)
+        ∙ ap₂ (λ (n t : ℕ). walk (map (rowAt rows) hs) n t) (length-map hs (λ h. getD cs h 0) ∙ sym (length-map hs (rowAt rows))) (sym (ap (λ (row : Row). row .D) (row-at k)))
         ∙ ap (λ (above-k : List Row). walk above-k (length above-k) (rowAt rows k .D)) (sym (levels-of-lists cs ds ts (shaped .as-many-deadlines) (shaped .as-many-periods) k))
       where
         same : (j : ℕ) → rowAt (rowsOf executions periods periods) j .T ≡ rowAt (map (rowAt rows) hs) j .T

@@ -1,19 +1,14 @@
--- The bounds of a row on itself and on its rivals, as the code holds them.
+-- The bounds of a row on its rivals and on itself, as the code holds them: the best quotients of its walk.
 use mathlib.Core.Path.{_≡_}
 use Prim.Native.Nat.{ℕ, _≤_, _<_}
 use mathlib.Core.List.{List}
 use lib.IntN.{ℤ, pos}
-use lib.ListN.{length, getD, take}
-use Rattle.theory.specs.Row.{Row}
-use Rattle.theory.specs.Points.{IsBound}
-use Rattle.points.specs.declared.Bounds.{Bounds}
+use lib.ListN.{length, getD, replicate}
+use Rattle.walks.specs.Quotients.{least, NewPoints, AllRaised}
 
--- how many rivals, at the front of `place` where they stand, at the front of `best` row k's bound on each, and after those its bound on itself
-pub record HoldsBounds (rows : List Row) (k : ℕ) (hs : List ℕ) (bounds : Bounds) : Type 0 where
-  pub how-many : bounds .n ≡ length hs
-  pub places : take (length hs) (bounds .place) ≡ hs
-  pub on-rivals : (j : ℕ) → j < length hs → IsBound rows k (getD hs j 0) (getD (bounds .best) j (pos 0))
-  pub on-itself : IsBound rows k k (getD (bounds .best) (length hs) (pos 0))
+-- the best quotients of a row's walk from a limit, over rows above it with these C and T: each raised from below every quotient
+abbrev pub BestOfWalk : ℕ → ℕ → List ℕ → List ℕ → List ℤ → Type 0
+BestOfWalk limit own cs ts best = AllRaised own cs ts (NewPoints cs ts (length cs) limit 0) (replicate 25 least) best
 
 -- entry j of row k's bounds is on row i: a rival with that place, or, after the rivals, row k itself
 pub data IsOn (places : List ℕ) (k i j : ℕ) : Type 0 where

@@ -8,32 +8,21 @@ ghost use Rattle.theory.specs.Moved.{LoweredTo, smaller};
 ghost use Rattle.theory.specs.Row.{AllWithin};
 ghost use Rattle.theory.specs.Points.{IsPointAllowance};
 ghost use Rattle.theory.specs.Lists.{Shaped, rowsOf};
-ghost use Rattle.climbs.specs.Ranking.{rankingBy, rivalsIn};
-ghost use Rattle.points.specs.Bounds.{HoldsBounds, IsOn, IsSmall};
+ghost use Rattle.demands.specs.Levels.{Small};
+ghost use Rattle.climbs.specs.Ranking.{rankingBy};
+ghost use Rattle.points.specs.Bounds.{BestOfWalk, IsOn, IsSmall};
 
-// A row's bounds: at the front of `best` on each of its n rivals, whose places are at the front of `place`, and then on the row itself.
-pub struct Bounds {
-    pub best: [i64; 25],
-    pub place: [usize; 24],
-    pub n: usize,
-}
-
-// The bounds of row k.
-pub fn bounds_of(c: &[u32], d: &[u32], t: &[u32], order: &[usize; 24], k: usize) -> Bounds
-    requires { ⌜ Shaped (now c) (now d) (now t) × AllWithin (rowsOf (now c) (now d) (now t)) ⌝ }
-    requires { ⌜ take (length (now d)) (now order) ≡ rankingBy (now d) ⌝ }
-    requires { ⌜ k < length (now c) ⌝ }
-    ensures { λ r. ⌜ HoldsBounds (rowsOf (now (c .entry)) (now (d .entry)) (now (t .entry))) k (rivalsIn (rankingBy (now (d .entry))) (now (d .entry)) k) r ⌝ }
+// The best quotients of a row's walk from its deadline: on each of the rows above it, and then on the row itself.
+fn bounds_of(limit: u32, own: u32, c: &[u32], t: &[u32]) -> [i64; 25]
+    requires { ⌜ Small (now c) (now t) ⌝ }
+    requires { ⌜ (1 ≤ limit) × (limit ≤ 1_000_000) × (own ≤ 1_000_000) ⌝ }
+    ensures { λ r. ⌜ BestOfWalk limit own (now (c .entry)) (now (t .entry)) r ⌝ }
+    ensures { λ r. ⌜ length r ≡ 25 ⌝ }
 {
-    let rivals = climbs::rivals_of(c, d, t, order, k);
-    let n = rivals.n;
-    let cs = rivals.c;
-    let ts = rivals.t;
-    let place = rivals.place;
     // Below every quotient, and near enough to 0 for the products of the walk.
     let mut best = [-50_000_000i64; 25];
-    walks::walk_on(n, d[k], 0, c[k], &cs[..n], &ts[..n], &mut best);
-    Bounds { best, place, n }
+    walks::walk_on(c.len(), limit, 0, own, c, t, &mut best);
+    best
 }
 
 // Lowers an entry to a number, where that is smaller.
@@ -68,15 +57,17 @@ pub fn point_allowances(c: &[u32], d: &[u32], t: &[u32], order: &[usize; 24]) ->
     ensures { λ r. ⌜ ((i : ℕ) → i < length (now (c .entry)) → IsPointAllowance (rowsOf (now (c .entry)) (now (d .entry)) (now (t .entry))) i (getD r i (pos 0))) ⌝ }
     ensures { λ r. ⌜ length r ≡ 24 ⌝ }
 {
+    let n = c.len();
+    let places: &[usize] = order;
+    let cs = climbs::gather(c, &places[..n]);
+    let ts = climbs::gather(t, &places[..n]);
     let mut allowed = [9223372036854775807i64; 24];
-    let mut k = 0;
-    while k < c.len() {
-        let bounds = bounds_of(c, d, t, order, k);
-        let n = bounds.n;
-        let best = bounds.best;
-        let place = bounds.place;
-        lower(&mut allowed, &best, &place[..n], k);
-        k += 1;
+    let mut rank = 0;
+    while rank < n {
+        let k = places[rank];
+        let best = bounds_of(d[k], cs[rank], &cs[..rank], &ts[..rank]);
+        lower(&mut allowed, &best, &places[..rank], k);
+        rank += 1;
     }
     allowed
 }
