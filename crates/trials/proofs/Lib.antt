@@ -1,4 +1,4 @@
 -- Laws of the search by trial.
-pub mod Raised
-pub mod Halving
 pub mod Search
+pub mod ByRank
+pub mod Filling

@@ -1,100 +1,101 @@
--- The search for the allowance of row i over the rows by rank, from the lowest up: what holds after the rows from place j on, how it begins, goes on and ends.
-use mathlib.Core.Path.{_≡_, sym, ap, _∙_, subst}
-use Prim.Native.Nat.{ℕ, _+_, _-_, _≤_, _<_}
-use mathlib.Core.Bool.{Bool, false, _||_}
+-- The search for the allowance of the row at place p over the rows by rank, from the lowest up: what holds after the rows from place j on, how it begins, goes
+-- on and ends.
+use mathlib.Core.Path.{_≡_, refl, sym, ap, _∙_, subst}
+use Prim.Native.Nat.{ℕ, _+_, _-_, _*_, _≤_, _<_}
 use mathlib.Core.Logic.{_⊎_, inl, inr}
 use mathlib.Core.List.{List}
 use native.Mathlib.Omega.{arith}
-use lib.Dec.{T, eqb}
-use lib.ListN.{length, getD, length-set}
-use Rattle.theory.specs.Row.{rowAt, AllWithin}
-use Rattle.theory.specs.Response.{load, IsResponse, Meets, AllMeet}
-use Rattle.theory.specs.Allowance.{longer, raised, IsAllowance}
-use Rattle.theory.specs.Points.{touches}
-use Rattle.theory.specs.Lists.{rowsOf, Shaped}
+use native.Mathlib.Nat.{mul-one}
+use borrow.Author.Tests.{eq-eqb, ne-eqb}
+use lib.ListN.{length, getD, take}
+use lib.Seq.{length-take-le, getD-take}
+use Rattle.theory.specs.Response.{ceil}
+use Rattle.theory.specs.Climb.{LeastRoom}
+use Rattle.theory.proofs.Ceil.{ceil-one}
 use Rattle.theory.proofs.Tests.{equal-or-not}
-use Rattle.theory.proofs.Each.{T-false}
-use Rattle.theory.proofs.Verdict.{within-steady}
-use Rattle.theory.proofs.Trial.{raise-bounded, meets-with-less, trial-allowance}
-use Rattle.climbs.proofs.ByRank.{above-of-lists}
-use Rattle.climbs.proofs.InLists.{in-rows, in-lists, execution-of, deadline-of, ranked, ranked-in-lists, Ranked, rank-of}
-use Rattle.trials.specs.Trial.{touchesBy, LargestRaise}
-use Rattle.trials.proofs.Halving.{runs}
+use Rattle.demands.specs.Levels.{loadOf, Small}
+use Rattle.climbs.proofs.Load.{load-of-mono}
+use Rattle.raises.specs.Raise.{raisedLoad, RoomBy, LargestRaise}
+use Rattle.raises.proofs.Raised.{room-with-less}
+use Rattle.trials.specs.Trial.{InTimeByRank, countedBy, RoomWith, RoomFrom, AllowanceAt}
 
-module _ (cs ds ts : List ℕ) (shaped : Shaped cs ds ts) where
-  pub touches-of-lists : (i k : ℕ) → touches (rowsOf cs ds ts) i k ≡ touchesBy ds i k
-  touches-of-lists i k = ap (λ (relation : ℕ → ℕ → Bool). eqb k i || relation i k) (above-of-lists cs ds ts (shaped .as-many-deadlines) (shaped .as-many-periods))
+-- the row at place p counts itself once
+pub counts-itself-once : (ts : List ℕ) (p : ℕ) → countedBy ts p p ≡ 1_000_000
+unfolding countedBy
+counts-itself-once ts p = rw (eq-eqb p p refl, countedBy)
 
-  -- after the rows from place j by rank on
-  pub record Searching (i allowed j : ℕ) : Type 0 where
-    pub places : j ≤ length cs
-    pub fits : getD cs i 0 + allowed ≤ getD ds i 0
-    pub met : (p : ℕ) → j ≤ p → p < length cs → T (touches (rowsOf cs ds ts) i (ranked cs ds ts shaped p)) → Meets (raised (rowsOf cs ds ts) i allowed) (ranked cs ds ts shaped p)
-    pub no-larger : (b : ℕ) → AllMeet (raised (rowsOf cs ds ts) i b) → b ≤ allowed
+-- another counts it by its period
+pub counts-by-period : (ts : List ℕ) (p j : ℕ) → (j ≡ p → ⊥) → countedBy ts p j ≡ getD ts p 0
+unfolding countedBy
+counts-by-period ts p j other = rw (ne-eqb j p other, countedBy)
 
-  module _ (within : AllWithin (rowsOf cs ds ts)) (i : ℕ) (inside : i < length cs) where
-    in-set : i < length (rowsOf cs ds ts)
-    in-set = in-rows cs ds ts shaped inside
+-- no sum over the rows before a place is large
+pub small-before : {cs ts : List ℕ} → Small cs ts → (j : ℕ) → j ≤ length cs → Small (take j cs) (take j ts)
+small-before {cs} {ts} small j h = record {
+  as-many = length-take-le j ts (omega (arith, small .as-many)) ∙ sym before;
+  few = omega (arith, small .few, before);
+  period-positive = λ i l. omega (arith, small .period-positive i (omega (arith, before)), getD-take j ts i 0 (omega (arith, before)));
+  by-period = λ i l. omega (arith, small .by-period i (omega (arith, before)), getD-take j ts i 0 (omega (arith, before)), getD-take j cs i 0 (omega (arith, before)));
+  by-million = λ i l. omega (arith, small .by-million i (omega (arith, before)), getD-take j ts i 0 (omega (arith, before)));
+}
+  where
+    before : length (take j cs) ≡ j
+    before = length-take-le j cs h
 
-    -- it begins with row i's distance to its deadline
-    pub searching-begins : (R : ℕ) → IsResponse (rowsOf cs ds ts) i R → R ≤ getD ds i 0 → Searching i (getD ds i 0 - R) (length cs)
-    unfolding load
-    searching-begins R is-R by-deadline = record {
-      places = omega arith;
-      fits = omega (arith, is-R .solves, execution-of cs ds ts shaped i);
-      met = λ p past h t. absurd (omega arith);
-      no-larger = λ b all.
-          let bounded = raise-bounded (rowsOf cs ds ts) i in-set b R (within i in-set .runs) is-R (all i (raised-in-set b)) in
-          omega (arith, deadline-of cs ds ts shaped i);
-    }
-      where
-        raised-in-set : (b : ℕ) → i < length (raised (rowsOf cs ds ts) i b)
-        raised-in-set b = subst (λ (n : ℕ). i < n) (sym (length-set (rowsOf cs ds ts) i (longer (rowAt (rowsOf cs ds ts) i) b))) in-set
+-- a row that counts the raise once responds no earlier than the raise after its response time
+raise-after : (own : ℕ) (cs ts : List ℕ) (R b limit : ℕ) → LeastRoom (loadOf own cs ts) R → limit ≤ 1_000_000 → RoomBy (raisedLoad own cs ts 1_000_000 b) limit → R + b ≤ limit
+raise-after own cs ts R b limit response small by =
+    let once : b * ceil (by .time) 1_000_000 ≡ b = ap (λ (n : ℕ). b * n) (ceil-one (by .time) (by .room .from-one) (omega (arith, by .by-limit))) ∙ mul-one b in
+    let loaded : loadOf own cs ts (by .time) + b ≤ by .time = omega (arith, once, by .room .enough) in
+    let behind : R ≤ by .time = response .least (by .time) (record { from-one = by .room .from-one; enough = omega arith }) in
+    omega (arith, loaded, load-of-mono own cs ts R (by .time) behind, response .repeats, by .by-limit)
 
-    module _ (allowed j : ℕ) (s : Searching i allowed j) (some : 0 < j) where
-      at : ℕ
-      at = ranked cs ds ts shaped (j - 1)
+-- after the rows from place j on
+pub record Searching (cs ds ts : List ℕ) (p allowed j : ℕ) : Type 0 where
+  pub places : j ≤ length cs
+  pub up-to : allowed ≤ getD ds p 0
+  pub room : RoomFrom cs ds ts p allowed j
+  pub no-larger : (b : ℕ) → RoomFrom cs ds ts p b p → b ≤ allowed
 
-      at-in-set : at < length (rowsOf cs ds ts)
-      unfolding at
-      at-in-set = in-rows cs ds ts shaped (ranked-in-lists cs ds ts shaped (j - 1) (omega (arith, s .places)))
+module _ {cs ds ts responses : List ℕ} (rows : InTimeByRank cs ds ts responses) (p : ℕ) (inside : p < length cs) where
+  -- the period for which a row counts it is no less than its deadline, and no more than a million
+  pub counted-limits : (j : ℕ) → (getD ds p 0 ≤ countedBy ts p j) × (1 ≤ countedBy ts p j) × (countedBy ts p j ≤ 1_000_000)
+  counted-limits j = go (equal-or-not j p)
+    where
+      go : (j ≡ p) ⊎ (j ≡ p → ⊥) → (getD ds p 0 ≤ countedBy ts p j) × (1 ≤ countedBy ts p j) × (countedBy ts p j ≤ 1_000_000)
+      go (inl e) = rw (e, counts-itself-once ts p) (omega (arith, rows .by-period p inside, rows .small .by-million p inside), omega arith, omega arith)
+      go (inr d) = rw (counts-by-period ts p j d) (rows .by-period p inside, rows .small .period-positive p inside, rows .small .by-million p inside)
 
-      -- a row that the raise touches lowers the allowance to the largest raise with which it meets
-      pub searching-lowers : (r : ℕ) → LargestRaise (rowsOf cs ds ts) i (ranked cs ds ts shaped (j - 1)) allowed r → Searching i r (j - 1)
-      unfolding at
-      searching-lowers r l = record {
-        places = omega (arith, s .places);
-        fits = omega (arith, s .fits, l .up-to);
-        met = λ p past h t. go p h t (equal-or-not p (j - 1)) past;
-        no-larger = λ b all. l .largest b (s .no-larger b all) (all at (subst (λ (n : ℕ). at < n) (sym (length-set (rowsOf cs ds ts) i (longer (rowAt (rowsOf cs ds ts) i) b))) at-in-set));
-      }
-        where
-          go : (p : ℕ) → p < length cs → T (touches (rowsOf cs ds ts) i (ranked cs ds ts shaped p)) → (p ≡ j - 1) ⊎ (p ≡ j - 1 → ⊥) → j - 1 ≤ p → Meets (raised (rowsOf cs ds ts) i r) (ranked cs ds ts shaped p)
-          go p h t (inl e) past = subst (λ (x : ℕ). Meets (raised (rowsOf cs ds ts) i r) (ranked cs ds ts shaped x)) (sym e) (l .meets)
-          go p h t (inr d) past =
-              let before : Meets (raised (rowsOf cs ds ts) i allowed) (ranked cs ds ts shaped p) = s .met p (omega arith) h t in
-              meets-with-less (rowsOf cs ds ts) i in-set r allowed (ranked cs ds ts shaped p) (runs (rowsOf cs ds ts) within i (ranked cs ds ts shaped p) in-set (in-rows cs ds ts shaped (ranked-in-lists cs ds ts shaped p h)) r) (l .up-to) before
+  -- it begins with the row's distance to its deadline
+  pub searching-begins : Searching cs ds ts p (getD ds p 0 - getD responses p 0) (length cs)
+  searching-begins = record {
+    places = omega arith;
+    up-to = omega arith;
+    room = λ q past h. absurd (omega arith);
+    no-larger = λ b all. omega (arith, bound b (all p (omega arith) inside));
+  }
+    where
+      bound : (b : ℕ) → RoomWith cs ds ts p b p → getD responses p 0 + b ≤ getD ds p 0
+      bound b own =
+          raise-after (getD cs p 0) (take p cs) (take p ts) (getD responses p 0) b (getD ds p 0) (rows .responds p inside) (omega (arith, rows .by-period p inside, rows .small .by-million p inside))
+          (rw (counts-itself-once ts p) at own)
 
-      -- another row is passed over
-      pub searching-passes : touchesBy ds i (ranked cs ds ts shaped (j - 1)) ≡ false → Searching i allowed (j - 1)
-      searching-passes e = record {
-        places = omega (arith, s .places);
-        fits = s .fits;
-        met = λ p past h t. go p h t (equal-or-not p (j - 1)) past;
-        no-larger = s .no-larger;
-      }
-        where
-          go : (p : ℕ) → p < length cs → T (touches (rowsOf cs ds ts) i (ranked cs ds ts shaped p)) → (p ≡ j - 1) ⊎ (p ≡ j - 1 → ⊥) → j - 1 ≤ p → Meets (raised (rowsOf cs ds ts) i allowed) (ranked cs ds ts shaped p)
-          go p h t (inl f) past =
-              absurd (T-false (touches (rowsOf cs ds ts) i (ranked cs ds ts shaped (j - 1))) (touches-of-lists i (ranked cs ds ts shaped (j - 1)) ∙ e) (subst (λ (x : ℕ). T (touches (rowsOf cs ds ts) i (ranked cs ds ts shaped x))) f t))
-          go p h t (inr d) past = s .met p (omega arith) h t
+module _ {cs ds ts : List ℕ} {p allowed j : ℕ} (so-far : Searching cs ds ts p allowed j) where
+  -- the row before it lowers the allowance to the largest raise with which it has room
+  pub searching-lowers : (a : ℕ) → p < j
+      → LargestRaise (raisedLoad (getD cs (j - 1) 0) (take (j - 1) cs) (take (j - 1) ts) (countedBy ts p (j - 1))) (getD ds (j - 1) 0) allowed a
+      → Searching cs ds ts p a (j - 1)
+  searching-lowers a more l = record {
+    places = omega (arith, so-far .places);
+    up-to = omega (arith, so-far .up-to, l .up-to);
+    room = λ q past h. go q h (equal-or-not q (j - 1)) past;
+    no-larger = λ b all. l .largest b (so-far .no-larger b all) (all (j - 1) (omega arith) (omega (arith, so-far .places)));
+  }
+    where
+      go : (q : ℕ) → q < length cs → (q ≡ j - 1) ⊎ (q ≡ j - 1 → ⊥) → j - 1 ≤ q → RoomWith cs ds ts p a q
+      go q h (inl e) past = subst (RoomWith cs ds ts p a) (sym e) (l .meets)
+      go q h (inr d) past = room-with-less (getD cs q 0) (take q cs) (take q ts) (countedBy ts p q) a allowed (getD ds q 0) (l .up-to) (so-far .room q (omega arith) h)
 
-    -- after all rows what is left is the allowance
-    pub searching-ends : (allowed : ℕ) → Searching i allowed 0 → AllMeet (rowsOf cs ds ts) → IsAllowance (rowsOf cs ds ts) i allowed
-    searching-ends allowed s all =
-        trial-allowance (rowsOf cs ds ts) i in-set allowed (within-steady (rowsOf cs ds ts) within) all
-        (λ k h t.
-        let stands : Ranked cs ds ts shaped k = rank-of cs ds ts shaped k (in-lists cs ds ts shaped h) in
-        subst (Meets (raised (rowsOf cs ds ts) i allowed)) (stands .there)
-        (s .met (stands .place) (omega arith) (stands .inside) (subst (λ (x : ℕ). T (touches (rowsOf cs ds ts) i x)) (sym (stands .there)) t)))
-        (s .no-larger)
+  -- after the row itself what is left is the allowance
+  pub searching-ends : j ≤ p → AllowanceAt cs ds ts p allowed
+  searching-ends past = record { all-have-room = λ q from h. so-far .room q (omega arith) h; largest = so-far .no-larger }

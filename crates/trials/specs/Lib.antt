@@ -1,2 +1,2 @@
--- What a search by trial stands on and comes to.
+-- Rows by rank on lists, and the allowance of one of them.
 pub mod Trial
