@@ -1,50 +1,46 @@
--- What the point service leaves for rows that all meet: their response times and allowances.
-use mathlib.Core.Path.{_≡_, sym, _∙_, subst}
-use Prim.Native.Nat.{ℕ, _≤_, _<_}
-use mathlib.Core.Logic.{⊎-elim}
+-- What is found for rows that all meet: their response times, and their allowances by either way.
+use mathlib.Core.Path.{_≡_, sym}
+use Prim.Native.Nat.{ℕ, _<_}
 use mathlib.Core.List.{List}
 use native.Mathlib.Omega.{arith}
-use lib.ListN.{length, take, drop}
-use lib.Seq.{take-at}
-use Rattle.theory.specs.declared.Answer.{Answer}
-use Rattle.theory.specs.Row.{Row, AllWithin}
-use Rattle.theory.specs.Response.{AllMeet, IsResponse}
+use lib.IntN.{pos}
+use lib.ListN.{length, getD, take}
+use Rattle.theory.specs.Row.{AllWithin}
+use Rattle.theory.specs.Response.{AllMeet}
 use Rattle.theory.specs.Allowance.{IsAllowance}
-use Rattle.theory.specs.Lists.{Shaped, rowsOf, ForEach, PointAnswered, rows-out-of-range, row-breaks-limits, output-too-short, row-misses, accepted}
+use Rattle.theory.specs.Points.{IsPointAllowance}
+use Rattle.theory.specs.Lists.{Shaped, rowsOf, ForEach}
 use Rattle.theory.proofs.RowsOf.{rows-of-length}
 use Rattle.theory.proofs.Verdict.{within-steady}
 use Rattle.theory.proofs.Allowance.{allowance-of-points}
+use Rattle.climbs.proofs.InLists.{in-lists, in-rows}
+use Rattle.responses.specs.declared.Verdict.{Verdict}
+use Rattle.responses.specs.declared.Verdict.the-variants.{OnTime, Late}
+use Rattle.responses.specs.Verdict.{RespondsInTime, IsVerdict}
+use Rattle.sets.proofs.Front.{front-for-each}
 
--- lists that have at their front the response times and allowances of rows
-pub record CoreNumbers (rows : List Row) (n : ℕ) (responses allowances : List ℕ) : Type 0 where
-  pub are-responses : ForEach rows (IsResponse rows) (take n responses)
-  pub are-allowances : ForEach rows (IsAllowance rows) (take n allowances)
+module _ (cs ds ts : List ℕ) (shaped : Shaped cs ds ts) where
+  -- where all rows meet, the verdict is that they are on time
+  pub meeting-on-time : AllMeet (rowsOf cs ds ts) → (response : List ℕ) (verdict : Verdict) → IsVerdict (rowsOf cs ds ts) response verdict
+      → (k : ℕ)
+      → k < length cs
+      → RespondsInTime (rowsOf cs ds ts) response k
+  meeting-on-time all response OnTime said k h = said k (in-rows cs ds ts shaped h)
+  meeting-on-time all response (Late late) said k h = absurd (said .misses (all late (said .in-set)))
 
-pub point-service-numbers : (cs ds ts responses allowances : List ℕ) (answer : Answer) (responses' allowances' : List ℕ)
-    → Shaped cs ds ts
-    → AllWithin (rowsOf cs ds ts)
-    → AllMeet (rowsOf cs ds ts)
-    → length cs ≤ length responses
-    → length cs ≤ length allowances
-    → PointAnswered cs ds ts responses allowances answer responses' allowances'
-    → CoreNumbers (rowsOf cs ds ts) (length cs) responses' allowances'
-point-service-numbers cs ds ts responses allowances answer responses' allowances' shaped within all r a answered = go answered
-  where
-    rows : List Row
-    rows = rowsOf cs ds ts
+  -- rows that are on time meet, so their point allowances are their allowances
+  pub allowances-of-points : AllWithin (rowsOf cs ds ts) → (response allowed : List ℕ)
+      → ((k : ℕ) → k < length cs → RespondsInTime (rowsOf cs ds ts) response k)
+      → ((i : ℕ) → i < length cs → IsPointAllowance (rowsOf cs ds ts) i (pos (getD allowed i 0)))
+      → (i : ℕ)
+      → i < length cs
+      → IsAllowance (rowsOf cs ds ts) i (getD allowed i 0)
+  allowances-of-points within response allowed in-time are i h =
+      allowance-of-points (rowsOf cs ds ts) (within-steady (rowsOf cs ds ts) within) i (in-rows cs ds ts shaped h)
+      (λ k l. let r = in-time k (in-lists cs ds ts shaped l) in record { response = getD response k 0; is-response = r .is-response; by-deadline = r .by-deadline })
+      (getD allowed i 0) (are i h)
 
-    as-many : length rows ≡ length cs
-    as-many = rows-of-length cs ds ts (shaped .as-many-deadlines) (shaped .as-many-periods)
-
-    go : {answer : Answer} {responses' allowances' : List ℕ} → PointAnswered cs ds ts responses allowances answer responses' allowances' → CoreNumbers (rowsOf cs ds ts) (length cs) responses' allowances'
-    go (rows-out-of-range not) = absurd (not shaped)
-    go (row-breaks-limits k s broken) = absurd (broken .breaks (within k (broken .in-table)))
-    go (output-too-short s w short) = absurd (⊎-elim (λ (l : length responses < length cs). omega arith) (λ (l : length allowances < length cs). omega arith) short)
-    go (row-misses k s w lr la miss) = absurd (miss .misses (all k (miss .in-set)))
-    go (accepted Rs As s w lr la meet are-responses are-point-allowances) =
-        record {
-          are-responses = subst (ForEach rows (IsResponse rows)) (sym (take-at Rs (drop (length Rs) responses) (length cs) (are-responses .one-each ∙ as-many))) are-responses;
-          are-allowances =
-              subst (ForEach rows (IsAllowance rows)) (sym (take-at As (drop (length As) allowances) (length cs) (are-point-allowances .one-each ∙ as-many)))
-              (record { one-each = are-point-allowances .one-each; right = λ i h. allowance-of-points rows (within-steady rows within) i h all _ (are-point-allowances .right i h) });
-        }
+  -- arrays that have at their front a number for each row
+  pub core-front : (Right : ℕ → ℕ → Type 0) (numbers : List ℕ) → length numbers ≡ 24 → ((k : ℕ) → k < length cs → Right k (getD numbers k 0)) → ForEach (rowsOf cs ds ts) Right (take (length cs) numbers)
+  core-front Right numbers long =
+      front-for-each (rowsOf cs ds ts) Right numbers (length cs) (sym (rows-of-length cs ds ts (shaped .as-many-deadlines) (shaped .as-many-periods))) (omega (arith, long, shaped .no-25th))

@@ -1,11 +1,10 @@
 -- From one stage of the list services to the next: what the checks passed, what the response times leave, and the answer on both lists.
-use mathlib.Core.Path.{_≡_, refl, sym, _∙_, subst}
+use mathlib.Core.Path.{_≡_, refl, sym, subst}
 use Prim.Native.Nat.{ℕ, _+_, _≤_, _<_}
 use mathlib.Core.List.{List}
 use native.Mathlib.Omega.{arith}
 use native.Mathlib.Numerals.{add-one}
 use lib.ListN.{length, getD, take}
-use lib.Seq.{getD-take, length-take-le}
 use Rattle.theory.specs.declared.Answer.{Answer}
 use Rattle.theory.specs.declared.Answer.the-variants.{Accepted, RowMisses}
 use Rattle.theory.specs.Answer.{numberOf}
@@ -23,6 +22,7 @@ use Rattle.refusals.specs.Checked as checks
 use Rattle.refusals.specs.Checked.{Checked}
 use Rattle.sets.specs.Begun.{IsBegun}
 use Rattle.sets.specs.Begun as stage
+use Rattle.sets.proofs.Front.{front-for-each}
 
 module _ (cs ds ts : List ℕ) (responses allowances : ℕ) where
   -- what the checks have passed
@@ -109,11 +109,8 @@ module _ (Allowance : List Row → ℕ → ℕ → Type 0) (cs ds ts responses a
       (first response (ready .long) (IsResponse (rowsOf cs ds ts)) (λ k h. ready .in-time k (in-rows cs ds ts (ready .passed .shaped) h) .is-response))
       (first allowed long (Allowance (rowsOf cs ds ts)) is-allowance)
     where
-      -- the first numbers of a long enough list, one for each row
       first : (numbers : List ℕ) → length numbers ≡ 24 → (Right : ℕ → ℕ → Type 0) → ((k : ℕ) → k < length cs → Right k (getD numbers k 0)) → ForEach (rowsOf cs ds ts) Right (take (length cs) numbers)
-      first numbers long Right right = record {
-        one-each = length-take-le (length cs) numbers (omega (arith, long, ready .passed .shaped .no-25th)) ∙ sym (rows-of-length cs ds ts (ready .passed .shaped .as-many-deadlines) (ready .passed .shaped .as-many-periods));
-        right = λ k h.
-            let inside : k < length cs = in-lists cs ds ts (ready .passed .shaped) h in
-            subst (Right k) (sym (getD-take (length cs) numbers k 0 inside)) (right k inside);
-      }
+      first numbers long Right =
+          front-for-each (rowsOf cs ds ts) Right numbers (length cs)
+          (sym (rows-of-length cs ds ts (ready .passed .shaped .as-many-deadlines) (ready .passed .shaped .as-many-periods)))
+          (omega (arith, long, ready .passed .shaped .no-25th))

@@ -79,7 +79,7 @@ fn begin(c: &[u32], d: &[u32], t: &[u32], responses: usize, allowances: usize) -
 }
 
 // The point allowances of rows that are all on time, which are no negative numbers.
-fn point_numbers(
+pub fn point_numbers(
     c: &[u32],
     d: &[u32],
     t: &[u32],
