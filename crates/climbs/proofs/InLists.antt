@@ -1,4 +1,4 @@
--- A set of rows in three lists: the numbers of a row, the row at a place by rank, and what a climb to the number in the list says of the row.
+-- A set of rows in three lists: the numbers of a row, and the row at a place by rank.
 use mathlib.Core.Path.{_≡_, sym, ap, _∙_, subst}
 use Prim.Native.Nat.{ℕ, _<_}
 use mathlib.Core.List.{List}
@@ -7,13 +7,9 @@ use lib.Dec.{T}
 use lib.ListN.{length, getD, take}
 use lib.Seq.{getD-take}
 use Rattle.theory.specs.Row.{Row, rowAt}
-use Rattle.theory.specs.Response.{Outcome}
-use Rattle.theory.specs.Climb.{Climbed}
 use Rattle.theory.specs.Lists.{rowsOf, Shaped}
 use Rattle.theory.proofs.RowsOf.{rows-of-length, row-of-lists}
 use Rattle.theory.proofs.At.{StandsIn, stands-in, each-at, ordered-at}
-use Rattle.climbs.specs.declared.Climb.{Climb}
-use Rattle.climbs.specs.Climb.{outcomeOf}
 use Rattle.climbs.specs.Ranking.{aboveBy, rankingBy}
 use Rattle.climbs.proofs.ByRank.{ranking-inside, mem-ranking, length-ranking, ranking-ordered}
 
@@ -33,10 +29,6 @@ module _ (cs ds ts : List ℕ) (shaped : Shaped cs ds ts) where
 
   pub in-lists : {k : ℕ} → k < length (rowsOf cs ds ts) → k < length cs
   in-lists h = omega (arith, rows-of-length cs ds ts (shaped .as-many-deadlines) (shaped .as-many-periods))
-
-  -- what a climb to the number in the list says of the row
-  pub climb-said : (f : ℕ → ℕ) (k : ℕ) (answer : Climb) (o : Outcome) → outcomeOf answer ≡ o → Climbed f (getD ds k 0) (outcomeOf answer) → Climbed f (rowAt (rowsOf cs ds ts) k .D) o
-  climb-said f k answer o e c = subst (λ (limit : ℕ). Climbed f limit o) (sym (deadline-of k)) (subst (Climbed f (getD ds k 0)) e c)
 
   -- the row at a place by rank
   abbrev pub ranked : ℕ → ℕ

@@ -1,3 +1,2 @@
 -- Laws of the response time question on all rows.
 pub mod Answering
-pub mod Following

@@ -7,7 +7,7 @@ use native.Mathlib.Omega.{arith}
 use lib.ListN.{length, getD, take}
 use lib.Seq.{length-take-le}
 use Rattle.theory.proofs.Each.{All}
-use Rattle.climbs.proofs.Held.{ranked-long}
+use Rattle.climbs.proofs.OrderByRank.{ranked-long}
 use Rattle.climbs.proofs.InLists.{order-in-lists}
 use Rattle.climbs.proofs.Load.{limits-at}
 use Rattle.climbs.proofs.AtRank.{InRankOrder, gathered-in-rank-order, small-at-rank}

@@ -10,13 +10,14 @@ use Rattle.theory.specs.Response.{Outcome, load, responds, misses, FirstMiss}
 use Rattle.theory.specs.Climb.{Climbed}
 use Rattle.theory.specs.Lists.{rowsOf, Shaped}
 use Rattle.theory.proofs.Each.{All, all-map}
+use Rattle.demands.specs.Levels.{loadOf}
 use Rattle.climbs.specs.Climb.{outcomeOf}
 use Rattle.climbs.proofs.Load.{limits-at}
-use Rattle.climbs.proofs.Held.{ranked-long}
-use Rattle.climbs.proofs.InLists.{ranked, order-ranked, order-in-lists}
+use Rattle.climbs.proofs.OrderByRank.{ranked-long, places-of-rows}
+use Rattle.climbs.proofs.InLists.{deadline-of, ranked, order-ranked, order-in-lists}
 use Rattle.climbs.proofs.AtRank.{gathered-in-rank-order}
+use Rattle.climbs.proofs.StandByRank.{StandByRank, Following, following-begins, execution-within, load-here, small-before, start-following, following-more}
 use Rattle.responses.proofs.Answering.{Answering, answering-begins, answering-more, answering-stops, answering-ends}
-use Rattle.responses.proofs.Following.{StandByRank, Following, places-of-rows, following-begins, execution-within, small-before, start-following, climbed-following, following-more}
 use Rattle.responses.proofs.responses_of.Statement.{statement}
 use Rattle.responses.proofs.responses_of.Tie as tie
 
@@ -39,7 +40,7 @@ places : (c : tie.After-by-rank Inv-loop μ-loop)
     (length first ≤ 24) × All (λ h. h < length (lists .c .now)) first
 places c =
     let start = c .before .before .before .before .before in
-    places-of-rows (start .args .c .now) (start .args .d .now) (start .args .t .now) (start .pre .0 .0) (start .args .order .now) (start .pre .1)
+    places-of-rows (start .args .c .now) (start .args .d .now) (start .args .order .now) (start .pre .0 .0 .as-many-deadlines) (start .pre .1) (start .pre .0 .0 .no-25th)
 
 gather-requires : tie.Need-gather-requires Inv-loop μ-loop
 gather-requires c κs = places c
@@ -57,6 +58,8 @@ stand c =
     let lists = start .args in
     let many = sym (start .pre .0 .0 .as-many-deadlines) in
     record {
+      shaped = start .pre .0 .0;
+      within = start .pre .0 .1;
       by-C = gathered-in-rank-order (lists .d .now) (lists .order .now) (lists .c .now) (c .before .gather .result) (length (lists .c .now)) many (start .pre .1) (c .before .gather .ensures .0);
       by-T = gathered-in-rank-order (lists .d .now) (lists .order .now) (lists .t .now) (c .gather2 .result) (length (lists .c .now)) many (start .pre .1) (c .gather2 .ensures .0);
       executions-long = c .before .gather .ensures .1;
@@ -96,9 +99,7 @@ row-inside c =
 
 -- its C is at most a million
 own-by-million : (c : tie.After-k Inv-loop μ-loop) → getD (c .before .before .before .before .gather .result) (c .before .before .loop .j) 0 ≤ 1_000_000
-own-by-million c =
-    let start = c .before .before .before .before .before .before .before .before .before .before in
-    execution-within (start .args .c .now) (start .args .d .now) (start .args .t .now) (start .pre .0 .0) (start .pre .0 .1) (c .before .before .before .before .gather .result) (c .before .before .before .gather2 .result) (stand (c .before .before .before)) (c .before .before .loop .j) (omega arith) .1
+own-by-million c = execution-within (stand (c .before .before .before)) (c .before .before .loop .j) (omega arith) .1
 
 add-climb-from : tie.Need-add-climb-from Inv-loop μ-loop
 add-climb-from c = omega (arith, own-by-million c, c .before .before .loop .inv (c .before .before .before .before .before .before .before .before .before .before .pre .0 .0) .1 .by-million)
@@ -130,17 +131,28 @@ climb-from-requires c κs =
     let shaped = start .pre .0 .0 in
     let within = start .pre .0 .1 in
     let turn = c .before .before .before .before .before .loop in
-    let executions = c .before .before .before .before .before .before .before .gather .result in
-    let periods = c .before .before .before .before .before .before .gather2 .result in (
-      small-before cs ds ts shaped within executions periods (stand (c .before .before .before .before .before .before)) (turn .j) (omega arith),
+    let standing = stand (c .before .before .before .before .before .before) in (
+      small-before standing (turn .j) (omega arith),
       (
         (omega (arith, limits-at cs ds ts shaped within (getD (start .args .order .now) (turn .j) 0) (row-inside (c .before .before .before))), own-by-million (c .before .before .before)),
-        start-following cs ds ts shaped within executions periods (stand (c .before .before .before .before .before .before)) (turn .j) (omega arith) (turn .before) (turn .inv shaped .1),
+        start-following standing (turn .j) (omega arith) (turn .before) (turn .inv shaped .1),
       ),
     )
 
--- what its climb said, by its rank
+-- what its climb said, over what stands before it
 climb-of-turn :
+    (c : tie.After-climb-from Inv-loop μ-loop)
+    → (outcome : Outcome)
+    → outcomeOf (c .climb-from .result) ≡ outcome
+    → let start = c .before .before .before .before .before .before .before .before .before .before .before .before .before .before in
+    let j = c .before .before .before .before .before .before .loop .j in
+    let executions = c .before .before .before .before .before .before .before .before .gather .result in
+    let periods = c .before .before .before .before .before .before .before .gather2 .result in
+    Climbed (loadOf (getD executions j 0) (take j executions) (take j periods)) (getD (start .args .d .now) (ranked (start .args .c .now) (start .args .d .now) (start .args .t .now) (start .pre .0 .0) j) 0) outcome
+climb-of-turn c outcome said = rw (row-ranked (c .before .before .before .before), said) at (c .climb-from .ensures)
+
+-- and what that says of the row
+climb-of-row :
     (c : tie.After-climb-from Inv-loop μ-loop)
     → (outcome : Outcome)
     → outcomeOf (c .climb-from .result) ≡ outcome
@@ -148,10 +160,10 @@ climb-of-turn :
     let rows = rowsOf (start .args .c .now) (start .args .d .now) (start .args .t .now) in
     let k = ranked (start .args .c .now) (start .args .d .now) (start .args .t .now) (start .pre .0 .0) (c .before .before .before .before .before .before .loop .j) in
     Climbed (load rows k) (rowAt rows k .D) outcome
-climb-of-turn c outcome said =
+climb-of-row c outcome said =
     let start = c .before .before .before .before .before .before .before .before .before .before .before .before .before .before in
-    climbed-following (start .args .c .now) (start .args .d .now) (start .args .t .now) (start .pre .0 .0) (start .pre .0 .1) (c .before .before .before .before .before .before .before .before .gather .result) (c .before .before .before .before .before .before .before .gather2 .result) (stand (c .before .before .before .before .before .before .before)) (c .before .before .before .before .before .before .loop .j) (omega arith) outcome
-    (rw (row-ranked (c .before .before .before .before), said) at (c .climb-from .ensures))
+    rw (deadline-of (start .args .c .now) (start .args .d .now) (start .args .t .now) (start .pre .0 .0) (ranked (start .args .c .now) (start .args .d .now) (start .args .t .now) (start .pre .0 .0) (c .before .before .before .before .before .before .loop .j)), ← load-here (stand (c .before .before .before .before .before .before .before)) (c .before .before .before .before .before .before .loop .j) (omega arith))
+    (climb-of-turn c outcome said)
 
 enum-known-r : tie.Need-enum-known-r Inv-loop μ-loop
 enum-known-r c = search needs
@@ -172,7 +184,7 @@ returns c =
     let so-far = turn .inv (start .pre .0 .0) .0 in (
       subst (FirstMiss (rowsOf (start .args .c .now) (start .args .d .now) (start .args .t .now))) (sym (row-ranked (c .before .before .before .before .before .before)))
           (answering-stops (start .args .c .now) (start .args .d .now) (start .args .t .now) (start .pre .0 .0) (turn .response) (turn .j) so-far (omega arith)
-          (climb-of-turn (c .before .before) misses (ap outcomeOf (c .enum-told .given .1)))),
+          (climb-of-row (c .before .before) misses (ap outcomeOf (c .enum-told .given .1)))),
       so-far .long,
     )
 
@@ -190,10 +202,11 @@ loop-again c = λ shaped.
     let ts = start .args .t .now in
     let turn = c .before .before .before .before .before .before .before .before .before .loop in
     let r = c .before .r .given .0 .0 in
-    let climbed = climb-of-turn (c .before .before .before) (responds r) (ap outcomeOf (c .before .r .given .1)) in (
+    let said = ap outcomeOf (c .before .r .given .1) in
+    let climbed = climb-of-turn (c .before .before .before) (responds r) said in (
       subst (λ (k : ℕ). Answering cs ds ts shaped (set (turn .response) k r) (turn .j + 1)) (sym (row-ranked (c .before .before .before .before .before .before .before)))
-          (answering-more cs ds ts shaped (turn .response) (turn .j) (turn .inv shaped .0) (omega arith) r climbed),
-      following-more cs ds ts shaped (start .pre .0 .1) (c .before .before .before .before .before .before .before .before .before .before .before .gather .result) (c .before .before .before .before .before .before .before .before .before .before .gather2 .result) (stand (c .before .before .before .before .before .before .before .before .before .before)) (turn .j) (omega arith) r climbed,
+          (answering-more cs ds ts shaped (turn .response) (turn .j) (turn .inv shaped .0) (omega arith) r (climb-of-row (c .before .before .before) (responds r) said)),
+      following-more (stand (c .before .before .before .before .before .before .before .before .before .before)) (turn .j) (omega arith) r (climbed .0) (climbed .1),
     )
 
 returns-2 : tie.Need-returns-2 Inv-loop μ-loop

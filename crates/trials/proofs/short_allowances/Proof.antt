@@ -8,7 +8,7 @@ use borrow.Author.Needs.{needs}
 use lib.ListN.{length, getD, take}
 use lib.Seq.{length-take-le}
 use Rattle.theory.proofs.Each.{All, T-false, all-map}
-use Rattle.climbs.proofs.Held.{ranked-long}
+use Rattle.climbs.proofs.OrderByRank.{ranked-long}
 use Rattle.climbs.proofs.InLists.{ranked, order-ranked, order-in-lists}
 use Rattle.responses.proofs.Following.{places-of-rows}
 use Rattle.trials.proofs.ByRank.{ListedByRank, length-by-rank, gathered-by-rank, in-time-by-rank, allowance-of-rank}
