@@ -11,30 +11,20 @@ use borrow.Author.Count.{below-more}
 use borrow.Author.Tests.{eqb-true, eq-eqb}
 use lib.Dec.{T, eqb, eqb→eq}
 use lib.ListN.{length, getD, take}
-use Rattle.theory.specs.Row.{Row, AllWithin, WithinLimits}
+use Rattle.theory.specs.Row.{Row}
 use Rattle.theory.specs.Rank.{rival}
 use Rattle.theory.specs.Response.{ceil}
 use Rattle.theory.specs.Points.{touches, times}
-use Rattle.theory.specs.Lists.{rowsOf, Shaped}
+use Rattle.theory.specs.Lists.{rowsOf}
 use Rattle.theory.proofs.Tests.{or-cases, order-cases}
 use Rattle.theory.proofs.Ceil.{le-ceil, ceil-le, ceil-positive}
 use Rattle.theory.proofs.Rank.{rival-irreflexive, above-transitive}
 use Rattle.theory.proofs.Shortest.{CountsMost}
 use Rattle.climbs.proofs.ByRank.{above-of-lists}
-use Rattle.climbs.proofs.InLists.{in-lists, period-of, ranked, ranked-in-lists, ranked-above, Ranked, rank-of}
-use Rattle.climbs.proofs.Load.{limits-at}
-use Rattle.climbs.proofs.AtRank.{InRankOrder, entry-at-rank}
+use Rattle.climbs.proofs.InLists.{in-lists, period-of, ranked, ranked-above, Ranked, rank-of}
+use Rattle.climbs.proofs.StandByRank.{StandByRank, limits-by-rank, period-by-rank}
 use Rattle.raises.proofs.RaisedRow.{Counted, counts-before, counts-itself}
 use Rattle.fits.specs.Smallest.{IsShorter}
-
--- a set's rows in lists, and their C and T by rank at the front of two arrays
-pub record StandByRank (cs ds ts executions periods : List ℕ) : Type 0 where
-  pub shaped : Shaped cs ds ts
-  pub within : AllWithin (rowsOf cs ds ts)
-  pub by-C : InRankOrder ds cs executions
-  pub by-T : InRankOrder ds ts periods
-  pub executions-long : length executions ≡ 24
-  pub periods-long : length periods ≡ 24
 
 -- the shortest of the first j periods; a million where there are none
 pub data Shortest (periods : List ℕ) (j period : ℕ) : Type 0 where
@@ -71,23 +61,12 @@ module _ {cs ds ts executions periods : List ℕ} (stand : StandByRank cs ds ts 
   abbrev at : ℕ → ℕ
   at = ranked cs ds ts (stand .shaped)
 
-  -- its numbers keep the limits
-  pub limits-by-rank : (p : ℕ) → p < length cs → WithinLimits (record { C = getD cs (at p) 0; D = getD ds (at p) 0; T = getD ts (at p) 0 })
-  limits-by-rank p h = limits-at cs ds ts (stand .shaped) (stand .within) (at p) (ranked-in-lists cs ds ts (stand .shaped) p h)
-
-  -- they stand at the place in the arrays
-  pub execution-by-rank : (p : ℕ) → p < length cs → getD executions p 0 ≡ getD cs (at p) 0
-  execution-by-rank p h = entry-at-rank cs ds ts (stand .shaped) p h cs executions (stand .by-C)
-
-  pub period-by-rank : (p : ℕ) → p < length cs → getD periods p 0 ≡ getD ts (at p) 0
-  period-by-rank p h = entry-at-rank cs ds ts (stand .shaped) p h ts periods (stand .by-T)
-
   -- the shortest period is one of a row, or a million
   pub shortest-within : {j period : ℕ} → j ≤ length cs → Shortest periods j period → (1 ≤ period) × (period ≤ 1_000_000)
   shortest-within places (none-before none million) = (omega arith, omega arith)
   shortest-within places (of-place q before there each) =
-      let limits = limits-by-rank q (omega arith) in
-      let same = period-by-rank q (omega arith) in
+      let limits = limits-by-rank stand q (omega arith) in
+      let same = period-by-rank stand q (omega arith) in
       (omega (arith, limits, same), omega (arith, limits, same))
 
   module _ (j : ℕ) (inside : j < length cs) where
@@ -113,7 +92,7 @@ module _ {cs ds ts executions periods : List ℕ} (stand : StandByRank cs ds ts 
       where
         go : (b : Bool) → eqb (at j) (at q) ≡ b → times rows (at j) (at q) t ≡ ceil t (getD periods q 0)
         go true e = absurd (rival-irreflexive rows (at j) (subst (λ (h : ℕ). T (rival rows h (at j))) (sym (eqb-true (at j) (at q) e)) (rival-by-rank q j h inside)))
-        go false e = rw (e, times) (ap (ceil t) (period-of cs ds ts (stand .shaped) (at q) ∙ sym (period-by-rank q (omega arith))))
+        go false e = rw (e, times) (ap (ceil t) (period-of cs ds ts (stand .shaped) (at q) ∙ sym (period-by-rank stand q (omega arith))))
 
     -- and itself once
     itself-counted : (t : ℕ) → times rows (at j) (at j) t ≡ 1
@@ -156,7 +135,7 @@ module _ {cs ds ts executions periods : List ℕ} (stand : StandByRank cs ds ts 
         }
     most-counted (of-place q before there each) =
         let earlier = counts-before cs ds ts (stand .shaped) executions periods (stand .by-C) (stand .by-T) j inside q before in
-        let positive : 1 ≤ getD periods q 0 = omega (arith, limits-by-rank q (omega arith), period-by-rank q (omega arith)) in
+        let positive : 1 ≤ getD periods q 0 = omega (arith, limits-by-rank stand q (omega arith), period-by-rank stand q (omega arith)) in
         record {
           row = at q;
           counts = record {

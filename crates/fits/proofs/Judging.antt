@@ -1,18 +1,17 @@
 -- The rows judged by rank, from the highest down, each with the row raised that counts most in its load: what holds after j of them, how it begins, goes on,
 -- stops at a miss and ends.
-use mathlib.Core.Path.{_≡_, refl, sym, _∙_, subst}
+use mathlib.Core.Path.{_≡_, refl, sym, subst}
 use Prim.Native.Nat.{ℕ, suc, _+_, _≤_, _<_, zero-le}
 use mathlib.Core.Logic.{_⊎_, inl, inr}
 use mathlib.Core.List.{List}
 use native.Mathlib.Nat.{mul-le-mul-left, mul-one}
-use native.Mathlib.Numerals.{add-one}
 use native.Mathlib.Omega.{arith}
 use borrow.Author.Count.{below-more}
 use lib.ListN.{length, getD, take, length-set}
 use Rattle.theory.specs.Row.{Row, rowAt}
 use Rattle.theory.specs.Response.{load, Meets, AllMeet, responds, misses, IsOutcome}
 use Rattle.theory.specs.Allowance.{longer, raised, IsCoreAllowance}
-use Rattle.theory.specs.Climb.{RoomAt, LeastRoom, Start}
+use Rattle.theory.specs.Climb.{RoomAt, LeastRoom}
 use Rattle.theory.specs.Lists.{rowsOf}
 use Rattle.theory.proofs.Tests.{order-cases}
 use Rattle.theory.proofs.Ceil.{ceil-positive}
@@ -21,14 +20,13 @@ use Rattle.theory.proofs.Verdict.{AllSteady, within-steady}
 use Rattle.theory.proofs.Allowance.{raised-steady}
 use Rattle.theory.proofs.Trial.{meets-with-less}
 use Rattle.theory.proofs.Shortest.{CountsMost, MeetsWithMost, core-allowance-by-most}
-use Rattle.demands.specs.Levels.{loadOf, Small}
+use Rattle.demands.specs.Levels.{loadOf}
 use Rattle.climbs.proofs.InLists.{in-rows, in-lists, deadline-of, ranked, ranked-in-lists, rank-of}
-use Rattle.climbs.proofs.AtRank.{load-at-rank, small-at-rank}
-use Rattle.climbs.proofs.After.{RespondsBefore, start-after}
+use Rattle.climbs.proofs.StandByRank.{StandByRank, Following, following-begins, following-more, limits-by-rank, execution-by-rank, period-by-rank, load-here}
 use Rattle.raises.specs.Raise.{raisedLoad, RoomBy, LargestRaise}
 use Rattle.raises.proofs.RaisedRow.{raised-meets-has-room, raised-with-room-meets}
 use Rattle.fits.specs.Smallest.{IsShorter}
-use Rattle.fits.proofs.Counting.{StandByRank, Shortest, none-before, shortest-more, shortest-within, limits-by-rank, execution-by-rank, period-by-rank, MostCounted, most-counted}
+use Rattle.fits.proofs.Counting.{Shortest, none-before, shortest-more, shortest-within, MostCounted, most-counted}
 
 -- a raise with which there is room leaves room for the row's own time
 own-and-raise : (own : ℕ) (cs ts : List ℕ) (period limit a : ℕ) → 1 ≤ period → RoomBy (raisedLoad own cs ts period a) limit → own + a ≤ limit
@@ -63,10 +61,6 @@ module _ {cs ds ts executions periods : List ℕ} (stand : StandByRank cs ds ts 
     by-none : j ≡ 0 → allowance ≡ 1_000_000 → Attained j allowance
     by-row : (p s : ℕ) → p < j → CountsMost rows (at p) s → (Meets (raised rows s (suc allowance)) (at p) → ⊥) → Attained j allowance
 
-  -- the arrays are of one length
-  abbrev same : length periods ≡ length executions
-  same = stand .periods-long ∙ sym (stand .executions-long)
-
   -- after the first j rows by rank
   pub record Judging (j allowance period before : ℕ) : Type 0 where
     pub places : j ≤ length cs
@@ -75,8 +69,7 @@ module _ {cs ds ts executions periods : List ℕ} (stand : StandByRank cs ds ts 
     pub attained : Attained j allowance
     pub shortest : Shortest periods j period
     pub by-period : allowance ≤ period
-    pub responds-before : RespondsBefore executions periods same j before
-    pub by-million : before ≤ 1_000_000
+    pub following : Following executions periods j before
 
   -- before the first
   pub judging-begins : Judging 0 1_000_000 1_000_000 0
@@ -87,8 +80,7 @@ module _ {cs ds ts executions periods : List ℕ} (stand : StandByRank cs ds ts 
     attained = by-none refl refl;
     shortest = none-before refl refl;
     by-period = omega arith;
-    responds-before = refl;
-    by-million = zero-le;
+    following = following-begins executions periods;
   }
 
   -- a row that meets with a raise meets with less
@@ -109,27 +101,10 @@ module _ {cs ds ts executions periods : List ℕ} (stand : StandByRank cs ds ts 
     abbrev loadHere : ℕ → ℕ
     loadHere = loadOf own (take j executions) (take j periods)
 
-    -- it is the row's load
-    is-load : loadHere ≡ load rows (at j)
-    is-load = load-at-rank cs ds ts (stand .shaped) j inside executions periods (stand .by-C) (stand .by-T)
-
-    -- no sum over what stands before it is large
-    pub small-here : Small (take j executions) (take j periods)
-    small-here = small-at-rank cs ds ts (stand .shaped) j inside executions periods (stand .by-C) (stand .by-T) (stand .within)
-
-    -- its climb may start its own time after the row before
-    pub starts-here : Start loadHere (before + own)
-    starts-here =
-        start-after executions periods same j own before (omega (arith, stand .executions-long, stand .shaped .no-25th)) small-here (λ i h. runs i (omega arith)) (runs j inside)
-        (so-far .responds-before)
-      where
-        runs : (i : ℕ) → i < length cs → 1 ≤ getD executions i 0
-        runs i h = omega (arith, execution-by-rank stand i h, limits-by-rank stand i h .runs)
-
     -- where it misses, the rows do not all meet
     pub judging-stops : ((S : ℕ) → RoomAt loadHere S → getD ds (at j) 0 < S) → AllMeet rows → ⊥
     judging-stops late all =
-        climbed-outcome rows (at j) misses (rw (deadline-of cs ds ts (stand .shaped) (at j), ← is-load) late) (all (at j) (in-set j inside))
+        climbed-outcome rows (at j) misses (rw (deadline-of cs ds ts (stand .shaped) (at j), ← load-here stand j inside) late) (all (at j) (in-set j inside))
 
     module _ (R a : ℕ) (responds-here : LeastRoom loadHere R × (R ≤ getD ds (at j) 0)) (largest-raise : LargestRaise (raisedLoad own (take j executions) (take j periods) period) (getD ds (at j) 0) allowance a) where
       -- the row that is raised counts most in its load
@@ -170,12 +145,11 @@ module _ {cs ds ts executions periods : List ℕ} (stand : StandByRank cs ds ts 
         attained = attained-here;
         shortest = shortest-more (so-far .shortest) (omega (arith, limits-by-rank stand j inside, period-by-rank stand j inside)) is-r;
         by-period = shorter-fits (is-r .one-of-them);
-        responds-before = rw add-one (responds-here .0);
-        by-million = omega (arith, responds-here .1, limits-by-rank stand j inside);
+        following = following-more stand j inside R (responds-here .0) (responds-here .1);
       }
         where
           here : IsOutcome rows (at j) (responds R)
-          here = climbed-outcome rows (at j) (responds R) (rw (deadline-of cs ds ts (stand .shaped) (at j), ← is-load) responds-here)
+          here = climbed-outcome rows (at j) (responds R) (rw (deadline-of cs ds ts (stand .shaped) (at j), ← load-here stand j inside) responds-here)
 
           shorter-fits : (r ≡ period) ⊎ (r ≡ getD periods j 0) → a ≤ r
           shorter-fits (inl e) = omega (arith, largest-raise .up-to, so-far .by-period)

@@ -7,12 +7,13 @@ use lib.ListN.{length, getD, take}
 use lib.Seq.{length-take-le}
 use Rattle.theory.proofs.Each.{All}
 use Rattle.climbs.specs.Ranking.{rankingBy}
-use Rattle.climbs.proofs.Held.{ranked-long, ranked-inside}
+use Rattle.climbs.proofs.OrderByRank.{ranked-long, ranked-inside}
 use Rattle.climbs.proofs.InLists.{order-ranked, order-in-lists}
 use Rattle.climbs.proofs.AtRank.{gathered-in-rank-order}
 use Rattle.fits.specs.Judged.{IsJudged}
-use Rattle.fits.proofs.Counting.{StandByRank, shortest-within, limits-by-rank, execution-by-rank}
-use Rattle.fits.proofs.Judging.{Judging, judging-begins, small-here, starts-here, judging-stops, judging-more, judging-ends}
+use Rattle.climbs.proofs.StandByRank.{StandByRank, limits-by-rank, execution-within, small-before, start-following}
+use Rattle.fits.proofs.Counting.{shortest-within}
+use Rattle.fits.proofs.Judging.{Judging, judging-begins, judging-stops, judging-more, judging-ends}
 use Rattle.fits.proofs.fit_by_climbs.Statement.{statement}
 use Rattle.fits.proofs.fit_by_climbs.Tie as tie
 
@@ -99,12 +100,10 @@ array-read-own c = below-last (c .before)
 
 -- C of the row there is at most a million
 own-small : (c : tie.In-loop Inv-loop μ-loop) → getD (c .before .before .before .gather .result) (c .before .loop .j) 0 ≤ 1_000_000
-own-small c =
-    let stand = stands (c .before .before) in
-    omega (arith, execution-by-rank stand (c .before .loop .j) (inside c), limits-by-rank stand (c .before .loop .j) (inside c))
+own-small c = execution-within (stands (c .before .before)) (c .before .loop .j) (inside c) .1
 
 add-judge : tie.Need-add-judge Inv-loop μ-loop
-add-judge c = omega (arith, so-far (c .before) .by-million, own-small (c .before))
+add-judge c = omega (arith, so-far (c .before) .following .by-million, own-small (c .before))
 
 -- the row there is in the lists
 row-in-lists : (c : tie.In-loop Inv-loop μ-loop)
@@ -139,10 +138,10 @@ judge-requires c κs =
     let judging = so-far turn in
     let at = turn .before .loop in
     let period = shortest-within stand (judging .places) (judging .shortest) in (
-      small-here stand (at .j) (at .allowance) (at .period) (at .before) judging (inside turn),
+      small-before stand (at .j) (inside turn),
       (
         (rw (at-rank turn) (omega (arith, limits-by-rank stand (at .j) (inside turn))), own-small turn),
-        ((judging .by-period, period .0, period .1), starts-here stand (at .j) (at .allowance) (at .period) (at .before) judging (inside turn)),
+        ((judging .by-period, period .0, period .1), start-following stand (at .j) (inside turn) (at .before) (judging .following)),
       ),
     )
 

@@ -8,9 +8,8 @@ use borrow.Author.Needs.{needs}
 use lib.ListN.{length, getD, take}
 use lib.Seq.{length-take-le}
 use Rattle.theory.proofs.Each.{All, T-false, all-map}
-use Rattle.climbs.proofs.OrderByRank.{ranked-long}
+use Rattle.climbs.proofs.OrderByRank.{ranked-long, places-of-rows}
 use Rattle.climbs.proofs.InLists.{ranked, order-ranked, order-in-lists}
-use Rattle.responses.proofs.Following.{places-of-rows}
 use Rattle.trials.proofs.ByRank.{ListedByRank, length-by-rank, gathered-by-rank, in-time-by-rank, allowance-of-rank}
 use Rattle.trials.proofs.Filling.{Filling, filling-begins, filling-more, filling-ends}
 use Rattle.trials.proofs.short_allowances.Statement.{statement}
@@ -26,7 +25,7 @@ abbrev μ-loop : tie.MeasureT-loop
 places-of-all : (start : tie.Start Inv-loop μ-loop) {m : ℕ} → length (start .args .c .now) ≤ m
     → let places = take (length (start .args .c .now)) (start .args .order .now) in (length places ≤ 24) × All (λ h. h < m) places
 places-of-all start fits =
-    let places = places-of-rows (start .args .c .now) (start .args .d .now) (start .args .t .now) (start .pre .0 .0) (start .args .order .now) (start .pre .1 .0) in
+    let places = places-of-rows (start .args .c .now) (start .args .d .now) (start .args .order .now) (start .pre .0 .0 .as-many-deadlines) (start .pre .1 .0) (start .pre .0 .0 .no-25th) in
     (places .0, all-map (take (length (start .args .c .now)) (start .args .order .now)) (λ h inside. omega arith) (places .1))
 
 slice-aggregate-by-rank : tie.Need-slice-aggregate-by-rank Inv-loop μ-loop
