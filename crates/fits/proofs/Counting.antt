@@ -1,14 +1,13 @@
 -- The rows of a set by rank: of the rows before a place, one of the shortest period counts most in the load of the row at the place; where none stands before
 -- it, the row itself does.
-use mathlib.Core.Path.{_≡_, refl, sym, ap, _∙_, subst}
+use mathlib.Core.Path.{_≡_, sym, subst}
 use Prim.Native.Nat.{ℕ, _+_, _≤_, _<_}
-use mathlib.Core.Bool.{Bool, true, false}
+use mathlib.Core.Bool.{Bool}
 use mathlib.Core.Logic.{_⊎_, inl, inr}
 use mathlib.Core.List.{List}
-use native.Mathlib.Nat.{le-trans, mul-le-mul-left}
+use native.Mathlib.Nat.{le-trans}
 use native.Mathlib.Omega.{arith}
 use borrow.Author.Count.{below-more}
-use borrow.Author.Tests.{eqb-true, eq-eqb}
 use lib.Dec.{T, eqb, eqb→eq}
 use lib.ListN.{length, getD, take}
 use Rattle.theory.specs.Row.{Row}
@@ -17,13 +16,13 @@ use Rattle.theory.specs.Response.{ceil}
 use Rattle.theory.specs.Points.{touches, times}
 use Rattle.theory.specs.Lists.{rowsOf}
 use Rattle.theory.proofs.Tests.{or-cases, order-cases}
-use Rattle.theory.proofs.Ceil.{le-ceil, ceil-le, ceil-positive}
+use Rattle.theory.proofs.Ceil.{ceil-longer, ceil-positive}
 use Rattle.theory.proofs.Rank.{rival-irreflexive, above-transitive}
 use Rattle.theory.proofs.Shortest.{CountsMost}
 use Rattle.climbs.proofs.ByRank.{above-of-lists}
-use Rattle.climbs.proofs.InLists.{in-lists, period-of, ranked, ranked-above, Ranked, rank-of}
+use Rattle.climbs.proofs.InLists.{in-lists, ranked, ranked-above, Ranked, rank-of}
 use Rattle.climbs.proofs.StandByRank.{StandByRank, limits-by-rank, period-by-rank}
-use Rattle.raises.proofs.RaisedRow.{Counted, counts-before, counts-itself}
+use Rattle.raises.proofs.RaisedRow.{Counted, once-of-itself, jobs-of-one-before, counts-before, counts-itself}
 use Rattle.fits.specs.Smallest.{IsShorter}
 
 -- the shortest of the first j periods; a million where there are none
@@ -47,10 +46,6 @@ shortest-more {periods} {j} {period} {r} (of-place q before there each) by-milli
     go : (r ≡ period) ⊎ (r ≡ getD periods j 0) → Shortest periods (j + 1) r
     go (inl e) = of-place q (omega arith) (omega arith) each-more
     go (inr e) = of-place j (omega arith) (sym e) each-more
-
--- a longer period has no more jobs
-ceil-longer : (t : ℕ) {m n : ℕ} → 1 ≤ m → m ≤ n → ceil t n ≤ ceil t m
-ceil-longer t {m} {n} positive h = ceil-le t (ceil t m) (omega arith) (le-trans (le-ceil t positive) (mul-le-mul-left (ceil t m) h))
 
 module _ {cs ds ts executions periods : List ℕ} (stand : StandByRank cs ds ts executions periods) where
   -- the rows that the lists are
@@ -87,17 +82,7 @@ module _ {cs ds ts executions periods : List ℕ} (stand : StandByRank cs ds ts 
 
     -- one before it counts once for each job
     jobs-counted : (q t : ℕ) → q < j → times rows (at j) (at q) t ≡ ceil t (getD periods q 0)
-    unfolding times
-    jobs-counted q t h = go (eqb (at j) (at q)) refl
-      where
-        go : (b : Bool) → eqb (at j) (at q) ≡ b → times rows (at j) (at q) t ≡ ceil t (getD periods q 0)
-        go true e = absurd (rival-irreflexive rows (at j) (subst (λ (h : ℕ). T (rival rows h (at j))) (sym (eqb-true (at j) (at q) e)) (rival-by-rank q j h inside)))
-        go false e = rw (e, times) (ap (ceil t) (period-of cs ds ts (stand .shaped) (at q) ∙ sym (period-by-rank stand q (omega arith))))
-
-    -- and itself once
-    itself-counted : (t : ℕ) → times rows (at j) (at j) t ≡ 1
-    unfolding times
-    itself-counted t = rw (eq-eqb (at j) (at j) refl, times)
+    jobs-counted q t h = jobs-of-one-before cs ds ts (stand .shaped) executions periods (stand .by-C) (stand .by-T) j inside q t h
 
     -- so a number of at least 1 and of the jobs of each before it bounds how often any row counts
     counts-at-most : (t limit : ℕ) → 1 ≤ limit → ((p : ℕ) → p < j → ceil t (getD periods p 0) ≤ limit) → (i : ℕ) → i < length rows → T (touches rows i (at j)) → times rows (at j) i t ≤ limit
@@ -109,7 +94,7 @@ module _ {cs ds ts executions periods : List ℕ} (stand : StandByRank cs ds ts 
             omega (arith, jobs-counted (s .place) t before, jobs (s .place) before)
 
         go : T (eqb (at j) i) ⊎ T (rival rows i (at j)) → times rows (at j) i t ≤ limit
-        go (inl e) = subst (λ (x : ℕ). times rows (at j) x t ≤ limit) (eqb→eq (at j) i e) (omega (arith, itself-counted t))
+        go (inl e) = subst (λ (x : ℕ). times rows (at j) x t ≤ limit) (eqb→eq (at j) i e) (omega (arith, once-of-itself rows (at j) t))
         go (inr above) =
             let s = rank-of cs ds ts (stand .shaped) i (in-lists cs ds ts (stand .shaped) in-set) in
             subst (λ (x : ℕ). times rows (at j) x t ≤ limit) (s .there) (at-place s (subst (λ (x : ℕ). T (rival rows x (at j))) (sym (s .there)) above))
@@ -129,7 +114,7 @@ module _ {cs ds ts executions periods : List ℕ} (stand : StandByRank cs ds ts 
           counts = record {
             in-set = itself .in-set;
             touched = itself .touched;
-            most = λ i t in-set touched from-one. rw (itself-counted t) (counts-at-most t 1 (omega arith) (λ p h. absurd (omega arith)) i in-set touched);
+            most = λ i t in-set touched from-one. rw (once-of-itself rows (at j) t) (counts-at-most t 1 (omega arith) (λ p h. absurd (omega arith)) i in-set touched);
           };
           counted = rw million itself;
         }

@@ -71,6 +71,11 @@ module _ {rows : List Row} (within : AllWithin rows) {k s own : ℕ} {cs ts : Li
         within = omega (arith, r .by-limit, same-deadline);
       })
 
+-- a row's load counts its own C once
+pub once-of-itself : (rows : List Row) (k t : ℕ) → times rows k k t ≡ 1
+unfolding times
+once-of-itself rows k t = rw (eq-eqb k k refl, times)
+
 module _ (cs ds ts : List ℕ) (shaped : Shaped cs ds ts) (executions periods : List ℕ) (by-C : InRankOrder ds cs executions) (by-T : InRankOrder ds ts periods) (j : ℕ) (inside : j < length cs) where
   abbrev rows : List Row
   rows = rowsOf cs ds ts
@@ -78,31 +83,35 @@ module _ (cs ds ts : List ℕ) (shaped : Shaped cs ds ts) (executions periods : 
   abbrev at : ℕ → ℕ
   at = ranked cs ds ts shaped
 
+  -- a row before it is its rival
+  rival-before : (q : ℕ) → q < j → T (rival rows (at q) (at j))
+  rival-before q h = subst (λ (relation : ℕ → ℕ → Bool). T (relation (at q) (at j))) (sym (above-of-lists cs ds ts (shaped .as-many-deadlines) (shaped .as-many-periods))) (ranked-above cs ds ts shaped q j h inside)
+
+  -- it counts one before it as often as that has jobs
+  pub jobs-of-one-before : (q t : ℕ) → q < j → times rows (at j) (at q) t ≡ ceil t (getD periods q 0)
+  unfolding times
+  jobs-of-one-before q t h = go (eqb (at j) (at q)) refl
+    where
+      go : (b : Bool) → eqb (at j) (at q) ≡ b → times rows (at j) (at q) t ≡ ceil t (getD periods q 0)
+      go true e = absurd (rival-irreflexive rows (at j) (subst (λ (h : ℕ). T (rival rows h (at j))) (sym (eqb-true (at j) (at q) e)) (rival-before q h)))
+      go false e = rw (e, times) (ap (ceil t) (period-of cs ds ts shaped (at q) ∙ sym (entry-at-rank cs ds ts shaped q (omega arith) ts periods by-T)))
+
   -- a row by rank counts each before it once for each job of its period
   pub counts-before : (q : ℕ) → q < j → Counted rows (at j) (at q) (getD executions j 0) (take j executions) (take j periods) (getD periods q 0)
-  unfolding times
   counts-before q h = record {
     in-set = in-rows cs ds ts shaped (ranked-in-lists cs ds ts shaped j inside);
     other-in-set = in-rows cs ds ts shaped (ranked-in-lists cs ds ts shaped q (omega arith));
-    touched = or-second (eqb (at j) (at q)) (rival rows (at q) (at j)) is-rival;
+    touched = or-second (eqb (at j) (at q)) (rival rows (at q) (at j)) (rival-before q h);
     is-load = load-at-rank cs ds ts shaped j inside executions periods by-C by-T;
-    as-often = λ t from-one by-million. go t (eqb (at j) (at q)) refl;
+    as-often = λ t from-one by-million. jobs-of-one-before q t h;
   }
-    where
-      is-rival : T (rival rows (at q) (at j))
-      is-rival = subst (λ (relation : ℕ → ℕ → Bool). T (relation (at q) (at j))) (sym (above-of-lists cs ds ts (shaped .as-many-deadlines) (shaped .as-many-periods))) (ranked-above cs ds ts shaped q j h inside)
-
-      go : (t : ℕ) (b : Bool) → eqb (at j) (at q) ≡ b → times rows (at j) (at q) t ≡ ceil t (getD periods q 0)
-      go t true e = absurd (rival-irreflexive rows (at j) (subst (λ (h : ℕ). T (rival rows h (at j))) (sym (eqb-true (at j) (at q) e)) is-rival))
-      go t false e = rw (e, times) (ap (ceil t) (period-of cs ds ts shaped (at q) ∙ sym (entry-at-rank cs ds ts shaped q (omega arith) ts periods by-T)))
 
   -- and itself once
   pub counts-itself : Counted rows (at j) (at j) (getD executions j 0) (take j executions) (take j periods) 1_000_000
-  unfolding times
   counts-itself = record {
     in-set = in-rows cs ds ts shaped (ranked-in-lists cs ds ts shaped j inside);
     other-in-set = in-rows cs ds ts shaped (ranked-in-lists cs ds ts shaped j inside);
     touched = or-first (eqb (at j) (at j)) (rival rows (at j) (at j)) (eqb-refl (at j));
     is-load = load-at-rank cs ds ts shaped j inside executions periods by-C by-T;
-    as-often = λ t from-one by-million. rw (eq-eqb (at j) (at j) refl, times) (sym (ceil-one t from-one by-million));
+    as-often = λ t from-one by-million. once-of-itself rows (at j) t ∙ sym (ceil-one t from-one by-million);
   }

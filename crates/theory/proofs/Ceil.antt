@@ -1,7 +1,7 @@
 -- The laws of the ceiling, and of the largest multiple not above a time.
 use mathlib.Core.Path.{_≡_}
 use Prim.Native.Nat.{ℕ, zero, suc, _+_, _-_, _*_, _/_, _≤_, _<_}
-use native.Mathlib.Nat.{div-zero, div-lt-iff-lt-mul, lt-div-mul-add, div-mul-le-self, le-div-iff-mul-le, mul-le-mul-right, add-mul, le-of-suc-le-suc, le-trans, le-antisymm, lt-of-lt-of-le, lt-of-mul-lt-mul-right, zero-mul, one-mul, suc-mul}
+use native.Mathlib.Nat.{div-zero, div-lt-iff-lt-mul, lt-div-mul-add, div-mul-le-self, le-div-iff-mul-le, mul-le-mul-left, mul-le-mul-right, add-mul, le-of-suc-le-suc, le-trans, le-antisymm, lt-of-lt-of-le, lt-of-mul-lt-mul-right, zero-mul, one-mul, suc-mul}
 use native.Mathlib.Omega.{arith}
 use Rattle.theory.specs.Response.{ceil}
 use Rattle.theory.specs.Points.{lastMultiple}
@@ -23,6 +23,10 @@ ceil-zero t = div-zero (t + (0 - 1))
 pub ceil-mono : (m : ℕ) {s t : ℕ} → s ≤ t → ceil s m ≤ ceil t m
 ceil-mono zero {s} {t} h = omega (arith, ceil-zero s, ceil-zero t)
 ceil-mono (suc m) {s} {t} h = ceil-le s (ceil t (suc m)) (omega arith) (le-trans h (le-ceil t (omega arith)))
+
+-- a longer period has no more jobs
+pub ceil-longer : (t : ℕ) {m n : ℕ} → 1 ≤ m → m ≤ n → ceil t n ≤ ceil t m
+ceil-longer t {m} {n} positive h = ceil-le t (ceil t m) (omega arith) (le-trans (le-ceil t positive) (mul-le-mul-left (ceil t m) h))
 
 pub ceil-subadditive : (m s t : ℕ) → ceil (s + t) m ≤ ceil s m + ceil t m
 ceil-subadditive zero s t = omega (arith, ceil-zero (s + t), ceil-zero s, ceil-zero t)

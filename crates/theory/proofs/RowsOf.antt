@@ -1,11 +1,10 @@
 -- The rows that three lists are: how many, and what stands at a place.
 use mathlib.Core.Path.{_≡_, refl, ap}
-use Prim.Native.Nat.{ℕ, zero, suc, _+_, _<_}
+use Prim.Native.Nat.{ℕ, zero, suc}
 use mathlib.Core.List.{List, [], _∷_, map}
 use native.Mathlib.Omega.{arith}
-use lib.ListN.{length, getD, set}
-use Rattle.theory.specs.Row.{Row, rowAt}
-use Rattle.theory.specs.Allowance.{raised}
+use lib.ListN.{length, getD}
+use Rattle.theory.specs.Row.{rowAt}
 use Rattle.theory.specs.Lists.{rowsOf}
 
 pub rows-of-length : (cs ds ts : List ℕ) → length ds ≡ length cs → length ts ≡ length cs → length (rowsOf cs ds ts) ≡ length cs
@@ -35,14 +34,3 @@ pub rows-of-places : (cs ds ts : List ℕ) → length ds ≡ length cs → lengt
 unfolding rowsOf
 rows-of-places cs ds ts d t [] = refl
 rows-of-places cs ds ts d t (h ∷ places) = cc (row-of-lists cs ds ts d t h, rows-of-places cs ds ts d t places)
-
--- raising row i is raising C of it
-pub raised-rows-of : (cs ds ts : List ℕ) (i a : ℕ) → length ds ≡ length cs → length ts ≡ length cs → i < length cs
-    → raised (rowsOf cs ds ts) i a ≡ rowsOf (set cs i (getD cs i 0 + a)) ds ts
-unfolding rowsOf
-raised-rows-of [] ds ts i a d t h = absurd (omega arith)
-raised-rows-of (c ∷ cs) [] ts i a d t h = absurd (omega arith)
-raised-rows-of (c ∷ cs) (x ∷ ds) [] i a d t h = absurd (omega arith)
-raised-rows-of (c ∷ cs) (x ∷ ds) (y ∷ ts) zero a d t h = refl
-raised-rows-of (c ∷ cs) (x ∷ ds) (y ∷ ts) (suc i) a d t h =
-    ap (λ (rows : List Row). record { C = c; D = x; T = y } ∷ rows) (raised-rows-of cs ds ts i a (omega arith) (omega arith) (omega arith))

@@ -1,26 +1,23 @@
--- The laws on which a search by trial stands: a row that meets with b more in row i meets with less, its response time without the raise is a start for
--- the climb with it, and row i's own distance to its deadline bounds every raise.
-use mathlib.Core.Path.{_≡_, refl, sym, ap, subst}
+-- The laws on which a search by trial stands: a row that meets with b more in row i meets with less, and row i's own distance to its deadline bounds every raise.
+use mathlib.Core.Path.{_≡_, refl, ap, subst}
 use Prim.Native.Nat.{ℕ, _+_, _*_, _≤_, _<_}
 use mathlib.Core.Bool.{Bool, true, false}
-use mathlib.Core.Logic.{_⊎_, inl, inr}
 use mathlib.Core.List.{List}
 use native.Mathlib.Omega.{arith}
-use native.Mathlib.Nat.{le-trans, mul-le-mul-right, mul-one, zero-mul}
+use native.Mathlib.Nat.{le-trans, mul-le-mul-right, mul-one}
 use borrow.Author.Tests.{eq-eqb}
 use lib.Dec.{T, eqb, eqb-refl}
 use lib.ListN.{length, length-set}
-use Rattle.theory.specs.Row.{Row, rowAt, WithinLimits, AllWithin}
+use Rattle.theory.specs.Row.{Row, rowAt}
 use Rattle.theory.specs.Rank.{rival}
 use Rattle.theory.specs.Response.{load, Outcome, responds, misses, climb, IsResponse, Meets, AllMeet}
 use Rattle.theory.specs.Allowance.{longer, raised, IsAllowance}
 use Rattle.theory.specs.Points.{times, touches}
-use Rattle.theory.specs.Climb.{RoomAt, LeastRoom, Start, Climbed}
+use Rattle.theory.specs.Climb.{RoomAt, Climbed}
 use Rattle.theory.proofs.Demand.{load-mono}
 use Rattle.theory.proofs.Response.{Room, meets-room, room-meets, climb-from-one}
 use Rattle.theory.proofs.Raise.{raised-row, load-of-touched, load-of-untouched}
-use Rattle.theory.proofs.Tests.{or-first, equal-or-not}
-use Rattle.theory.proofs.Sum.{only, only-there, only-elsewhere}
+use Rattle.theory.proofs.Tests.{or-first}
 use Rattle.theory.proofs.Each.{T-true, T-false}
 use Rattle.theory.proofs.Verdict.{AllSteady}
 use Rattle.theory.proofs.Allowance.{raised-steady}
@@ -54,14 +51,6 @@ module _ (rows : List Row) (i : ℕ) (inside : i < length rows) where
             load-of-untouched rows i b inside k t (T-false (touches rows i k) e),
           )
 
-  -- nor does raising it at all
-  pub raise-loads : (a k t : ℕ) → load rows k t ≤ load (raised rows i a) k t
-  raise-loads a k t = go (touches rows i k) refl
-    where
-      go : (c : Bool) → touches rows i k ≡ c → load rows k t ≤ load (raised rows i a) k t
-      go true e = omega (arith, load-of-touched rows i a inside k t (T-true (touches rows i k) e))
-      go false e = omega (arith, load-of-untouched rows i a inside k t (T-false (touches rows i k) e))
-
   -- a row that meets with b more in row i meets with less
   pub meets-with-less : (a b k : ℕ) → 1 ≤ rowAt (raised rows i a) k .C → a ≤ b → Meets (raised rows i b) k → Meets (raised rows i a) k
   meets-with-less a b k runs h m =
@@ -76,15 +65,6 @@ module _ (rows : List Row) (i : ℕ) (inside : i < length rows) where
       same-deadline : (a k : ℕ) → rowAt (raised rows i a) k .D ≡ rowAt rows k .D
       same-deadline a k = ap (λ (r : Row). r .D) (raised-row rows i a inside k)
 
-  module _ (k R : ℕ) (runs : 1 ≤ rowAt rows k .C) (is-R : IsResponse rows k R) where
-    -- the response time without the raise is a start for the climb with it
-    pub response-starts : (a : ℕ) → Start (load (raised rows i a) k) R
-    response-starts a = record {
-      from-one = is-R .at-least-one;
-      rises = omega (arith, is-R .solves, raise-loads a k R);
-      below-room = λ S room. response-below-room rows k R S runs is-R (record { from-one = room .from-one; enough = le-trans (raise-loads a k S) (room .enough) });
-    }
-
   -- its own raise counts once in row i's load
   raised-own : (b t : ℕ) → load (raised rows i b) i t ≡ load rows i t + b
   unfolding times
@@ -96,45 +76,6 @@ module _ (rows : List Row) (i : ℕ) (inside : i < length rows) where
         ap (λ (n : ℕ). b * n) once,
         mul-one b,
       )
-
-  -- so is the response time with a smaller raise
-  pub least-starts : (a b k R : ℕ) → a ≤ b → LeastRoom (load (raised rows i a) k) R → Start (load (raised rows i b) k) R
-  least-starts a b k R h l = record {
-    from-one = l .room .from-one;
-    rises = omega (arith, l .repeats, raise-mono a b k R h);
-    below-room = λ S room. l .least S (record { from-one = room .from-one; enough = le-trans (raise-mono a b k S h) (room .enough) });
-  }
-
-  -- raising by nothing changes no load
-  raised-by-none : (k t : ℕ) → load (raised rows i 0) k t ≡ load rows k t
-  raised-by-none k t = go (touches rows i k) refl
-    where
-      go : (b : Bool) → touches rows i k ≡ b → load (raised rows i 0) k t ≡ load rows k t
-      go true e = omega (arith, load-of-touched rows i 0 inside k t (T-true (touches rows i k) e), zero-mul (times rows k i t))
-      go false e = load-of-untouched rows i 0 inside k t (T-false (touches rows i k) e)
-
-  -- and a row that meets meets with it
-  pub meets-with-none : (k : ℕ) → 1 ≤ rowAt (raised rows i 0) k .C → Meets rows k → Meets (raised rows i 0) k
-  meets-with-none k runs m =
-      let r : Room rows k (rowAt rows k .D) = meets-room rows k m in
-      room-meets (raised rows i 0) k runs
-      (record {
-        time = r .time;
-        room = record { from-one = r .room .from-one; enough = omega (arith, r .room .enough, raised-by-none k (r .time)) };
-        within = omega (arith, r .within, ap (λ (r : Row). r .D) (raised-row rows i 0 inside k));
-      })
-
-  -- a raise up to the deadline keeps the limits
-  pub raised-within : (a : ℕ) → AllWithin rows → rowAt rows i .C + a ≤ rowAt rows i .D → AllWithin (raised rows i a)
-  raised-within a within fits h l =
-      let w : WithinLimits (rowAt rows h) = within h (subst (λ (n : ℕ). h < n) (length-set rows i (longer (rowAt rows i) a)) l) in
-      subst WithinLimits (sym (raised-row rows i a inside h))
-      (record { runs = omega (arith, w .runs); by-deadline = fits-deadline h w (equal-or-not h i); by-period = w .by-period; by-million = w .by-million })
-    where
-      fits-deadline : (h : ℕ) → WithinLimits (rowAt rows h) → (h ≡ i) ⊎ (h ≡ i → ⊥) → rowAt rows h .C + only i a h ≤ rowAt rows h .D
-      fits-deadline h w (inl e) =
-          omega (arith, only-there i a h e, ap (λ (x : ℕ). rowAt rows x .C) e, ap (λ (x : ℕ). rowAt rows x .D) e)
-      fits-deadline h w (inr d) = omega (arith, only-elsewhere i a h d, w .by-deadline)
 
   -- no raise of row i with which it meets takes its response time past its deadline
   pub raise-bounded : (b R : ℕ) → 1 ≤ rowAt rows i .C → IsResponse rows i R → Meets (raised rows i b) i → R + b ≤ rowAt rows i .D
