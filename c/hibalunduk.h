@@ -74,8 +74,8 @@ struct hibalunduk_answer {
  * A table of more than HIBALUNDUK_TABLE_MAX bytes is always refused, and its first HIBALUNDUK_TABLE_MAX + 1 bytes get
  * the same answer, so no longer buffer is needed to read one.
  *
- * Time: microseconds for a few rows, about five milliseconds for 24 rows on one core, less on more cores. The slowest
- * table found, made of rows with very many scheduling points on one core, takes 0.3 seconds.
+ * Time: microseconds for a few rows, below a millisecond for 24. The slowest table found, with long climbs and very many
+ * scheduling points on one core, takes 0.1 seconds.
  */
 struct hibalunduk_answer hibalunduk_table(const uint8_t *table, size_t table_len,
                                           uint8_t *report, size_t report_len);
@@ -100,7 +100,7 @@ struct hibalunduk_answer hibalunduk_set(const uint8_t *c, size_t c_len,
 /* The point service: takes, fills and refuses as the set service does, and answers the same on every call; its
  * allowances are found by the point formula.
  *
- * Time: microseconds for a few rows, some milliseconds for 24. The slowest lists found take 0.1 seconds.
+ * Time: below a microsecond for a few rows, about a millisecond for 24. The slowest lists found take 0.1 seconds.
  */
 struct hibalunduk_answer hibalunduk_point(const uint8_t *c, size_t c_len,
                                           const uint8_t *d, size_t d_len,
