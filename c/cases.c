@@ -269,11 +269,10 @@ void any_rows(struct rows *rows)
     draws[below(9)](rows);
 }
 
-/* Long climbs: short rows that leave next to nothing of the core, and a few slow ones below them. */
-void long_climbs(struct rows *rows)
+/* Short rows that leave next to nothing of the core, and slow ones below them. */
+static void slow_rows_below(struct rows *rows, unsigned slow)
 {
     uint64_t left = 1, of = 1; /* what is left of the core */
-    unsigned slow = between(1, 3);
 
     rows->cores = between(1, 2);
     rows->count = 0;
@@ -284,6 +283,18 @@ void long_climbs(struct rows *rows)
     }
     for (unsigned n = 0; n < slow; n++)
         rows->row[rows->count++] = (struct row){ 1, TICKS_MAX - below(1000), TICKS_MAX };
+}
+
+/* Long climbs: a few slow rows below short ones. */
+void long_climbs(struct rows *rows)
+{
+    slow_rows_below(rows, between(1, 3));
+}
+
+/* Long climbs of many rows: as long_climbs, with more slow rows. */
+void many_long_climbs(struct rows *rows)
+{
+    slow_rows_below(rows, between(4, 8));
 }
 
 /* Long walks: many rows of distinct periods, each with D = T. */

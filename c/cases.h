@@ -48,6 +48,7 @@ void full_cores(struct rows *rows);
 void urgent_rows(struct rows *rows);
 void any_rows(struct rows *rows);
 void long_climbs(struct rows *rows);
+void many_long_climbs(struct rows *rows);
 void long_walks(struct rows *rows);
 
 /* One row more that breaks the limits. */

@@ -407,6 +407,8 @@ static struct kind kinds[] = {
     KIND("table: report lengths", small_rows, table_report_lengths, 1),
     KIND("table: report lengths, any rows", any_rows, table_report_lengths, 10),
     KIND("table: long climbs", long_climbs, table_as_drawn, 10),
+    KIND("table: long climbs of many rows", many_long_climbs, table_as_drawn, 50),
+    KIND("table: long walks", long_walks, table_as_drawn, 10),
     KIND("lists: small numbers", small_rows, lists_as_drawn, 1),
     KIND("lists: ordinary", ordinary_rows, lists_as_drawn, 1),
     KIND("lists: near the limits", limit_rows, lists_as_drawn, 1),
