@@ -1,4 +1,5 @@
--- The load of a row with one of the rows above it raised, what a climb of a limited number of rounds must come to, and what a search by such climbs must.
+-- The load of a row with one of the rows above it raised (document 01, "Allowance"), what a climb of a limited number of rounds must come to, and what a search
+-- by such climbs must.
 use Prim.Native.Nat.{ℕ, _+_, _*_, _≤_, _<_}
 use mathlib.Core.List.{List}
 use Rattle.theory.specs.Response.{ceil}

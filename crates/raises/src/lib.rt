@@ -1,4 +1,4 @@
-// The largest raise of one row with which another still meets, by climbs of a limited number of rounds, on lists of C and T.
+// The largest raise of one row with which another still meets: document 01, "Allowance", for two rows, by climbs of a limited number of rounds, on lists of C and T.
 ghost use Prim.Native.Nat.{_≤_};
 ghost use Rattle.theory.specs.Climb.{LeastRoom, Start};
 ghost use Rattle.demands.specs.Levels.{loadOf, Small};

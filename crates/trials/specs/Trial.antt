@@ -1,4 +1,4 @@
--- Rows that stand by rank on lists of C, D and T: what it takes that they all respond in time, and the allowance of one of them.
+-- Rows that stand by rank on lists of C, D and T: what it takes that they all respond in time, and the allowance of one of them (document 01, "Allowance").
 use mathlib.Core.Path.{_≡_}
 use Prim.Native.Nat.{ℕ, _≤_, _<_}
 use mathlib.Core.Bool.{true, false}
