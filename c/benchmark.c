@@ -1,8 +1,6 @@
 /* What the product costs beside the second program: both on the same inputs in the same run, by processor time, best of
  * several runs, as second / product: above 1 the product is the faster one. Argument: how many random tables a line. */
-#include "cases.h"
-#include "hibalunduk.h"
-#include "second.h"
+#include "programs.h"
 
 #include <math.h>
 #include <stdio.h>
@@ -35,50 +33,36 @@ struct cost {
 
 static uint8_t report[REPORT_ROOM], responses[LIST_ROOM], allowances[LIST_ROOM];
 
-/* Calls the product's service; gives the answer's number. */
-static uint32_t call_product(enum service service, const struct input *input)
+/* Calls a program's service; gives the answer's number. */
+static uint32_t call(const struct program *program, enum service service, const struct input *input)
 {
     const struct lists *lists = &input->lists;
 
     if (service == TABLE)
-        return hibalunduk_table(input->table, input->table_len, report, sizeof report).number;
-    return (service == SET ? hibalunduk_set : hibalunduk_point)(
+        return program->table(input->table, input->table_len, report, sizeof report).number;
+    return (service == SET ? program->set : program->point)(
                lists->c, lists->c_len, lists->d, lists->d_len, lists->t, lists->t_len, responses,
                sizeof responses, allowances, sizeof allowances)
         .number;
 }
-
-/* Calls the second program's service; gives the answer's number. */
-static uint32_t call_second(enum service service, const struct input *input)
-{
-    const struct lists *lists = &input->lists;
-
-    if (service == TABLE)
-        return second_table(input->table, input->table_len, report, sizeof report).number;
-    return (service == SET ? second_set : second_point)(
-               lists->c, lists->c_len, lists->d, lists->d_len, lists->t, lists->t_len, responses,
-               sizeof responses, allowances, sizeof allowances)
-        .number;
-}
-
-typedef uint32_t caller(enum service, const struct input *);
 
 /* Microseconds of so many calls together. */
-static double time_calls(caller *call, enum service service, const struct input *input, unsigned long calls)
+static double time_calls(const struct program *program, enum service service, const struct input *input,
+                         unsigned long calls)
 {
     clock_t start = clock();
 
     for (unsigned long n = 0; n < calls; n++)
-        call(service, input);
+        call(program, service, input);
     return (double)(clock() - start) * 1000000 / CLOCKS_PER_SEC;
 }
 
 /* How many calls make a run. */
-static unsigned long calls_a_run(caller *call, enum service service, const struct input *input)
+static unsigned long calls_a_run(const struct program *program, enum service service, const struct input *input)
 {
     unsigned long calls = 1;
 
-    while (time_calls(call, service, input, calls) < SHORT_RUN)
+    while (time_calls(program, service, input, calls) < SHORT_RUN)
         calls *= 2;
     return calls;
 }
@@ -86,13 +70,13 @@ static unsigned long calls_a_run(caller *call, enum service service, const struc
 /* What a call costs in both programs: the best of so many runs of each in turn, of one where a run takes long. */
 static struct cost measure(enum service service, const struct input *input, int runs)
 {
-    unsigned long ours = calls_a_run(call_product, service, input);
-    unsigned long theirs = calls_a_run(call_second, service, input);
+    unsigned long ours = calls_a_run(&product_program, service, input);
+    unsigned long theirs = calls_a_run(&second_program, service, input);
     struct cost best = { 1e300, 1e300 };
 
     for (int run = 0; run < runs; run++) {
-        double product = time_calls(call_product, service, input, ours);
-        double second = time_calls(call_second, service, input, theirs);
+        double product = time_calls(&product_program, service, input, ours);
+        double second = time_calls(&second_program, service, input, theirs);
 
         best.product = fmin(best.product, product / (double)ours);
         best.second = fmin(best.second, second / (double)theirs);
@@ -176,7 +160,7 @@ static void draw_accepted(enum service service, unsigned cores, unsigned count, 
     do {
         uunifast_rows(&rows, cores, count, 0.5 + 0.4 * share, deadline_is_period);
         make_input(&rows, input);
-    } while (call_product(service, input) != 0);
+    } while (call(&product_program, service, input) != 0);
 }
 
 /* ---- The table ---- */

@@ -2,7 +2,7 @@
  * on random cases, and a third opinion on small numbers too. Compares the answer, the row and every byte lent, and
  * stops at the first that differ. Arguments: seed, number of cases. Status 0: none differ; 1: some do. */
 #include "brute.h"
-#include "hibalunduk.h"
+#include "programs.h"
 #include "sheets.h"
 
 #include <stdio.h>
@@ -24,51 +24,10 @@ struct kind {
 #define KIND(kind, drawn_by, compared_by, times) \
     { .name = kind, .draw = drawn_by, .compare = compared_by, .once_in = times }
 
-/* A program: its three services. */
-struct program {
-    const char *name;
-    table_service *table;
-    list_service *set, *point;
-};
-
 static unsigned long seed, cases;
 static struct kind *current; /* the kind of the case at hand */
 
-/* ---- The product's services in the second program's form ---- */
-
-/* An answer of the product. */
-static struct second_answer answered(struct hibalunduk_answer answer)
-{
-    return (struct second_answer){ answer.number, answer.row };
-}
-
-/* The product's table service. */
-static struct second_answer product_table(const uint8_t *table, size_t table_len, uint8_t *report, size_t report_len)
-{
-    return answered(hibalunduk_table(table, table_len, report, report_len));
-}
-
-/* The product's set service. */
-static struct second_answer product_set(const uint8_t *c, size_t c_len, const uint8_t *d, size_t d_len,
-                                        const uint8_t *t, size_t t_len, uint8_t *responses, size_t responses_len,
-                                        uint8_t *allowances, size_t allowances_len)
-{
-    return answered(hibalunduk_set(c, c_len, d, d_len, t, t_len, responses, responses_len, allowances,
-                                   allowances_len));
-}
-
-/* The product's point service. */
-static struct second_answer product_point(const uint8_t *c, size_t c_len, const uint8_t *d, size_t d_len,
-                                          const uint8_t *t, size_t t_len, uint8_t *responses, size_t responses_len,
-                                          uint8_t *allowances, size_t allowances_len)
-{
-    return answered(hibalunduk_point(c, c_len, d, d_len, t, t_len, responses, responses_len, allowances,
-                                     allowances_len));
-}
-
-static const struct program product = { "the product", product_table, product_set, product_point };
-static const struct program second = { "the second program", second_table, second_set, second_point };
-static const struct program third = { "the third opinion", brute_table, brute_set, brute_set };
+static const struct program third_program = { "the third opinion", brute_table, brute_set, brute_set };
 
 /* ---- What differs ---- */
 
@@ -138,7 +97,7 @@ static void against_table(const struct program *other, const struct called *ours
     print_case(other->name);
     print_bytes("table", bytes, len);
     printf("  report of %lu bytes\n", (unsigned long)report_len);
-    print_called(product.name, ours, report_len, 0);
+    print_called(product_program.name, ours, report_len, 0);
     print_called(other->name, &theirs, report_len, 0);
     stop();
 }
@@ -148,10 +107,10 @@ static void compare_table(const uint8_t *bytes, size_t len, size_t report_len)
 {
     struct called ours;
 
-    call_table(product.table, bytes, len, report_len, &ours);
-    against_table(&second, &ours, bytes, len, report_len);
+    call_table(product_program.table, bytes, len, report_len, &ours);
+    against_table(&second_program, &ours, bytes, len, report_len);
     if (small_table(bytes, len)) {
-        against_table(&third, &ours, bytes, len, report_len);
+        against_table(&third_program, &ours, bytes, len, report_len);
         current->third++;
     }
     count(&ours);
@@ -285,8 +244,8 @@ static void compare_walks(const struct lists *lists)
 {
     struct called ours, theirs;
 
-    call_lists(product.point, lists, &ours);
-    call_lists(second.point, lists, &theirs);
+    call_lists(product_program.point, lists, &ours);
+    call_lists(second_program.point, lists, &theirs);
     against_lists("point, the second program", &ours, &theirs, lists);
 }
 
@@ -295,15 +254,15 @@ static void compare_lists(const struct lists *lists)
 {
     struct called set, point, theirs;
 
-    call_lists(product.set, lists, &set);
-    call_lists(product.point, lists, &point);
-    call_lists(second.set, lists, &theirs);
+    call_lists(product_program.set, lists, &set);
+    call_lists(product_program.point, lists, &point);
+    call_lists(second_program.set, lists, &theirs);
     against_lists("set, the second program", &set, &theirs, lists);
     against_lists("point, the second program's set", &point, &theirs, lists);
     if (lists->c_len / 4 <= WALKED_ROWS)
         compare_walks(lists);
     if (small_lists(lists)) {
-        call_lists(third.set, lists, &theirs);
+        call_lists(third_program.set, lists, &theirs);
         against_lists("set, the third opinion", &set, &theirs, lists);
         current->third++;
     }
@@ -433,7 +392,7 @@ static void compare_sheet(bool holds, const struct called *called)
     if (holds)
         return;
     print_case("the paper");
-    print_called(product.name, called, LENT_ROOM, LENT_ROOM);
+    print_called(product_program.name, called, LENT_ROOM, LENT_ROOM);
     stop();
 }
 
@@ -445,12 +404,12 @@ static void compare_sheets(void)
     current = &sheets;
     for (size_t n = 0; n < SET_SHEETS; n++) {
         current->drawn++;
-        compare_sheet(set_sheet_holds(n, product.set, &called), &called);
-        compare_sheet(set_sheet_holds(n, product.point, &called), &called);
+        compare_sheet(set_sheet_holds(n, product_program.set, &called), &called);
+        compare_sheet(set_sheet_holds(n, product_program.point, &called), &called);
     }
     for (size_t n = 0; n < TABLE_SHEETS; n++) {
         current->drawn++;
-        compare_sheet(table_sheet_holds(n, product.table, &called), &called);
+        compare_sheet(table_sheet_holds(n, product_program.table, &called), &called);
     }
 }
 

@@ -1,0 +1,37 @@
+/* The product and the second program, each as three services in the second program's form. */
+#include "programs.h"
+
+#include "hibalunduk.h"
+
+/* An answer of the product. */
+static struct second_answer answered(struct hibalunduk_answer answer)
+{
+    return (struct second_answer){ answer.number, answer.row };
+}
+
+/* The product's table service. */
+static struct second_answer product_table(const uint8_t *table, size_t table_len, uint8_t *report, size_t report_len)
+{
+    return answered(hibalunduk_table(table, table_len, report, report_len));
+}
+
+/* The product's set service. */
+static struct second_answer product_set(const uint8_t *c, size_t c_len, const uint8_t *d, size_t d_len,
+                                        const uint8_t *t, size_t t_len, uint8_t *responses, size_t responses_len,
+                                        uint8_t *allowances, size_t allowances_len)
+{
+    return answered(hibalunduk_set(c, c_len, d, d_len, t, t_len, responses, responses_len, allowances,
+                                   allowances_len));
+}
+
+/* The product's point service. */
+static struct second_answer product_point(const uint8_t *c, size_t c_len, const uint8_t *d, size_t d_len,
+                                          const uint8_t *t, size_t t_len, uint8_t *responses, size_t responses_len,
+                                          uint8_t *allowances, size_t allowances_len)
+{
+    return answered(hibalunduk_point(c, c_len, d, d_len, t, t_len, responses, responses_len, allowances,
+                                     allowances_len));
+}
+
+const struct program product_program = { "the product", product_table, product_set, product_point };
+const struct program second_program = { "the second program", second_table, second_set, second_point };
