@@ -5,9 +5,9 @@ use mathlib.Core.List.{List, [], _∷_, _++_}
 use native.Mathlib.Omega.{arith}
 use lib.ListN.{length, take, drop, replicate, length-replicate, length-append, length-drop}
 use lib.Seq.{take-at}
-use Rattle.theory.specs.declared.Answer.{Answer}
-use Rattle.theory.specs.declared.Answer.the-variants.{Accepted}
-use Rattle.theory.specs.Answer.{numberOf}
+use Rattle.answers.specs.declared.Answer.{Answer}
+use Rattle.answers.specs.declared.Answer.the-variants.{Accepted}
+use Rattle.answers.specs.Answer.{numberOf}
 use Rattle.placement.specs.Core.{Table}
 use Rattle.placement.specs.Choice.{allowanceFit}
 use Rattle.placement.specs.Placement.{Moment}

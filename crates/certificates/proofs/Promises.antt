@@ -7,8 +7,8 @@ use mathlib.Core.List.{List}
 use native.Mathlib.Omega.{arith}
 use lib.ListN.{length, take, length-set, length-take}
 use lib.Seq.{ext-getD}
-use Rattle.theory.specs.declared.Answer.the-variants.{Accepted, NoCoreTakes}
-use Rattle.theory.specs.Answer.{numberOf, rowOf}
+use Rattle.answers.specs.declared.Answer.the-variants.{Accepted, NoCoreTakes}
+use Rattle.answers.specs.Answer.{numberOf, rowOf}
 use Rattle.theory.specs.Row.{Row, rowAt, AllWithin}
 use Rattle.theory.specs.Response.{AllMeet, IsResponse}
 use Rattle.theory.specs.Allowance.{longer, IsAllowance}

@@ -3,7 +3,7 @@ use mathlib.Core.Path.{_≡_}
 use Prim.Native.Nat.{ℕ, suc}
 use mathlib.Core.List.{List}
 use lib.ListN.{length, take}
-use Rattle.theory.specs.declared.Answer.the-variants.{Accepted, NoCoreTakes}
+use Rattle.answers.specs.declared.Answer.the-variants.{Accepted, NoCoreTakes}
 use Rattle.placement.specs.Core.{Table}
 use Rattle.placement.specs.Choice.{allowanceFit}
 use Rattle.placement.specs.Placement.{Stopped}

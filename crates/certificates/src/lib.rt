@@ -5,7 +5,7 @@ ghost use Rattle.theory.specs.Row.{AllWithin};
 ghost use Rattle.theory.specs.Lists.{Shaped, rowsOf};
 ghost use Rattle.placing.specs.Placed.{tableOf};
 ghost use Rattle.certificates.specs.Held.{IsHeld};
-use theory::Answer;
+use answers::Answer;
 
 // Accepted, and the figures of each row at the front of three arrays; or refusal 6.
 pub struct Certificate {
@@ -28,7 +28,7 @@ pub fn certify(cores: usize, c: &[u32], d: &[u32], t: &[u32]) -> Certificate
     let mut rows = [[0usize; 24]; 8];
     let mut counts = [0usize; 8];
     let answer = placing::place_rows(c, d, t, cores, &mut core[..n], &mut rows, &mut counts);
-    if refusals::number_of(answer) != 0 {
+    if answers::number_of(answer) != 0 {
         return Certificate {
             answer,
             core,

@@ -10,10 +10,10 @@ use native.Mathlib.Nat.{le-trans, le-of-eq}
 use lib.Dec.{T}
 use lib.ListN.{length, getD}
 use Rattle.theory.specs.Row.{Row, rowAt}
-use Rattle.theory.specs.Gather.{lessOrTied, upFrom, keep, sort}
+use Rattle.theory.specs.Gather.{lessOrTied, upFrom, keep, sort, All}
 use Rattle.theory.specs.Rank.{above, rivals, levels}
 use Rattle.theory.specs.Lists.{rowsOf}
-use Rattle.theory.proofs.Each.{All, all-map, all-sort, all-upFrom, all-kept}
+use Rattle.theory.proofs.Each.{all-map, all-sort, all-upFrom, all-kept}
 use Rattle.theory.proofs.Member.{mem-sort, mem-upFrom, length-sort, length-upFrom}
 use Rattle.theory.proofs.Order.{Ordered, ordered-distinct, upFrom-ascending, sort-ordered}
 use Rattle.theory.proofs.Kept.{length-keep-le, keep-sort}

@@ -4,7 +4,7 @@ use Prim.Native.Nat.{ℕ, _≤_, _<_}
 use mathlib.Core.List.{List}
 use native.Mathlib.Omega.{arith}
 use lib.ListN.{length, take, length-take}
-use Rattle.theory.proofs.Each.{All}
+use Rattle.theory.specs.Gather.{All}
 use Rattle.climbs.specs.Ranking.{rankingBy}
 use Rattle.climbs.proofs.ByRank.{ranking-inside, length-ranking}
 

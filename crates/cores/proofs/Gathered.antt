@@ -6,9 +6,9 @@ use native.Mathlib.Omega.{arith}
 use lib.Dec.{ltb}
 use lib.ListN.{length, getD, take, set, length-set, length-map}
 use Rattle.theory.specs.Row.{Row, rowAt, AllWithin}
-use Rattle.theory.specs.Gather.{insert}
+use Rattle.theory.specs.Gather.{insert, All}
 use Rattle.theory.specs.Lists.{Shaped, rowsOf}
-use Rattle.theory.proofs.Each.{All, all-map}
+use Rattle.theory.proofs.Each.{all-map}
 use Rattle.theory.proofs.RowsOf.{rows-of-length, rows-of-places}
 use Rattle.placement.specs.Core.{Table, coreRows, coreOf, placesOn}
 use Rattle.placement.specs.Choice.{joined}

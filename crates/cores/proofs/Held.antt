@@ -7,9 +7,8 @@ use native.Mathlib.Omega.{arith}
 use lib.Dec.{ltb}
 use lib.ListN.{length, getD, take, set, replicate, length-take, length-set, getD-replicate}
 use lib.Seq.{getD-set-same, getD-set-other}
-use Rattle.theory.specs.Gather.{insert}
+use Rattle.theory.specs.Gather.{insert, All}
 use Rattle.theory.proofs.Tests.{equal-or-not}
-use Rattle.theory.proofs.Each.{All}
 use Rattle.theory.proofs.Member.{length-insert}
 use Rattle.placement.specs.Core.{coreOf, placesOn, placeOnCore}
 use Rattle.placement.proofs.PlacesOn.{places-none, places-at-most, places-in-table, places-on-core, place-on-core-at, places-fewer, places-joined, places-other}

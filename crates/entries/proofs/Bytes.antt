@@ -6,9 +6,9 @@ use mathlib.Core.List.{List, [], _∷_, _++_, flatMap}
 use native.Mathlib.Omega.{arith}
 use lib.ListN.{length, take, length-take}
 use lib.Seq.{take-append-le}
-use Rattle.theory.specs.declared.Answer.{Answer}
-use Rattle.theory.specs.declared.Answer.the-variants.{Accepted, RowsOutOfRange}
-use Rattle.theory.specs.Answer.{numberOf}
+use Rattle.answers.specs.declared.Answer.{Answer}
+use Rattle.answers.specs.declared.Answer.the-variants.{Accepted, RowsOutOfRange}
+use Rattle.answers.specs.Answer.{numberOf}
 use Rattle.theory.specs.Row.{Row}
 use Rattle.theory.specs.Lists.{filled, Answered, rows-out-of-range}
 use Rattle.theory.proofs.Tests.{equal-or-not}
@@ -17,24 +17,6 @@ use Rattle.records.specs.ListBytes.{numbersIn, bytesOf, Fours, BytesAnswered, n
 use Rattle.records.proofs.Number.{AllBelow, all-below-drop, four-bytes-read-back}
 use Rattle.entries.specs.Lists.{RowBytes, AnsweredInBytes}
 use Rattle.entries.proofs.Cut.{CutAnswered, refused-alike, accepted-alike}
-
--- a number's bytes fill the first four
-number-first : (n a b c d : ℕ) (more bytes : List ℕ) → filled (fourBytes n ++ more) (a ∷ b ∷ c ∷ d ∷ bytes) ≡ fourBytes n ++ filled more bytes
-unfolding fourBytes
-number-first n a b c d more bytes = refl
-
--- bytes filled with those of the numbers that they are stay as they were, also where their length is no multiple of four
-kept : (bytes : List ℕ) → AllBelow 256 bytes → filled (bytesOf (numbersIn bytes)) bytes ≡ bytes
-unfolding numbersIn bytesOf flatMap
-kept [] below = refl
-kept (a ∷ []) below = refl
-kept (a ∷ (b ∷ [])) below = refl
-kept (a ∷ (b ∷ (c ∷ []))) below = refl
-kept (a ∷ (b ∷ (c ∷ (d ∷ bytes)))) below =
-    let n = bigEndianFrom 0 (a ∷ b ∷ c ∷ d ∷ []) in
-    number-first n a b c d (bytesOf (numbersIn bytes)) bytes
-    ∙ ap (λ (behind : List ℕ). fourBytes n ++ behind) (kept bytes (all-below-drop 256 4 (a ∷ b ∷ c ∷ d ∷ bytes) below))
-    ∙ ap (λ (front : List ℕ). front ++ bytes) (four-bytes-read-back a b c d bytes below)
 
 -- bytes filled with those of a list of numbers whose front was filled: only the front matters
 front-filled : (numbers bytes : List ℕ) → length numbers ≤ length (numbersIn bytes) → AllBelow 256 bytes

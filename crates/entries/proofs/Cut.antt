@@ -6,9 +6,9 @@ use mathlib.Core.List.{List}
 use native.Mathlib.Omega.{arith}
 use lib.ListN.{length, take, drop}
 use lib.Seq.{take-at}
-use Rattle.theory.specs.declared.Answer.{Answer}
-use Rattle.theory.specs.declared.Answer.the-variants.{Accepted}
-use Rattle.theory.specs.Answer.{numberOf}
+use Rattle.answers.specs.declared.Answer.{Answer}
+use Rattle.answers.specs.declared.Answer.the-variants.{Accepted}
+use Rattle.answers.specs.Answer.{numberOf}
 use Rattle.theory.specs.Row.{Row}
 use Rattle.theory.specs.Lists.{Shaped, filled, Answered, rows-out-of-range, row-breaks-limits, output-too-short, row-misses, accepted}
 use Rattle.theory.proofs.RowsOf.{rows-of-length}

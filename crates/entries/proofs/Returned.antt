@@ -4,8 +4,8 @@ use Prim.Native.Nat.{ℕ}
 use mathlib.Core.Logic.{_↔_}
 use mathlib.Core.List.{List}
 use lib.IntN.{pos, natAbs}
-use Rattle.theory.specs.declared.Answer.{Answer}
-use Rattle.theory.specs.Answer.{numberOf, rowOf}
+use Rattle.answers.specs.declared.Answer.{Answer}
+use Rattle.answers.specs.Answer.{numberOf, rowOf}
 use Rattle.theory.specs.Row.{Row}
 use Rattle.theory.specs.Allowance.{IsAllowance}
 use Rattle.theory.specs.Points.{IsPointAllowance}

@@ -4,12 +4,12 @@ ghost use mathlib.Core.Path.{_≡_};
 ghost use mathlib.Core.Bool.{true};
 ghost use mathlib.Core.Logic.{_↔_};
 ghost use Prim.Native.Nat.{_/_, min};
-ghost use Rattle.theory.specs.Answer.{numberOf, rowOf};
+ghost use Rattle.answers.specs.Answer.{numberOf, rowOf};
 ghost use Rattle.theory.specs.Lists.{Answered};
 ghost use Rattle.records.specs.ListBytes.{BytesAnswered};
 ghost use Rattle.entries.specs.Lists.{RowBytes, allowanceBy, AnsweredInBytes};
 ghost use Rattle.entries.specs.Entry.{TableReturned, SetReturned, PointReturned};
-use theory::Answer;
+use answers::Answer;
 
 // An answer as C takes it: its number and its row.
 #[repr(C)]
@@ -28,8 +28,8 @@ fn entry_answer(answer: Answer) -> EntryAnswer
     ensures { λ r. ⌜ (r .number ≡ numberOf answer) × (r .row ≡ rowOf answer) ⌝ }
 {
     EntryAnswer {
-        number: refusals::number_of(answer),
-        row: refusals::row_of(answer),
+        number: answers::number_of(answer),
+        row: answers::row_of(answer),
     }
 }
 
@@ -96,7 +96,7 @@ fn answer_in_bytes(
     let r = room(responses.len());
     let a = room(allowances.len());
     let answer = answer_lists(by, c, d, t, &mut response[..r], &mut allowance[..a]);
-    if refusals::number_of(answer) != 0 {
+    if answers::number_of(answer) != 0 {
         return answer;
     }
     let n = c.len();

@@ -4,9 +4,9 @@ use Prim.Native.Nat.{ℕ, suc, _≤_, _<_}
 use mathlib.Core.List.{List, map}
 use native.Mathlib.Omega.{arith}
 use lib.ListN.{length}
+use Rattle.theory.specs.Gather.{All}
 use Rattle.theory.specs.Row.{Row, rowAt}
 use Rattle.theory.specs.Response.{AllMeet}
-use Rattle.theory.proofs.Each.{All}
 use Rattle.placement.specs.Core.{coreRows}
 use Rattle.placement.proofs.PlacesOn.{core-rows-at-places}
 use Rattle.cores.specs.Cores.{heldPlaces}

@@ -5,7 +5,8 @@ use mathlib.Core.List.{List, [], _∷_}
 use native.Mathlib.Omega.{arith}
 use lib.ListN.{length, getD, drop, set, length-set, drop-of-length-le}
 use lib.Seq.{drop-cons, getD-set-same, getD-set-other}
-use Rattle.theory.proofs.Each.{All, all-map}
+use Rattle.theory.specs.Gather.{All}
+use Rattle.theory.proofs.Each.{all-map}
 use Rattle.theory.proofs.Member.{all-at, mem-getD}
 use Rattle.theory.proofs.Order.{Ordered}
 use Rattle.figures.specs.Scattered.{scattered}

@@ -5,12 +5,13 @@ use mathlib.Core.Logic.{⊎-elim}
 use mathlib.Core.List.{List, [], _∷_, map}
 use native.Mathlib.Omega.{arith}
 use lib.ListN.{length, getD, length-map}
+use Rattle.theory.specs.Gather.{All}
 use Rattle.theory.specs.Row.{Row, rowAt}
 use Rattle.theory.specs.Response.{IsResponse}
 use Rattle.theory.specs.Allowance.{IsAllowance}
 use Rattle.theory.specs.Lists.{ForEach}
 use Rattle.theory.proofs.Tests.{equal-or-not}
-use Rattle.theory.proofs.Each.{All, all-map}
+use Rattle.theory.proofs.Each.{all-map}
 use Rattle.theory.proofs.Order.{ordered-distinct}
 use Rattle.placement.specs.Core.{coreRows, coreOf, placesOn, placeOnCore}
 use Rattle.placement.proofs.PlacesOn.{core-rows-at-places, places-in-table, places-on-core, places-ascending, place-on-core-inside, place-at-place-on-core}

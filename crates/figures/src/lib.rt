@@ -3,7 +3,7 @@ ghost use mathlib.Core.Path.{_≡_};
 ghost use Prim.Native.Nat.{ℕ, _≤_, _<_};
 ghost use mathlib.Core.List.{map};
 ghost use lib.ListN.{length, getD, take};
-ghost use Rattle.theory.proofs.Each.{All};
+ghost use Rattle.theory.specs.Gather.{All};
 ghost use Rattle.theory.specs.Row.{rowAt, AllWithin};
 ghost use Rattle.theory.specs.Response.{AllMeet};
 ghost use Rattle.theory.specs.Allowance.{IsAllowance};

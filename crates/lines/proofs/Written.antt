@@ -5,8 +5,8 @@ use native.Mathlib.Omega.{arith}
 use mathlib.Core.List.{List, [], _∷_, _++_, append-assoc, append-nil}
 use lib.ListN.{length, getD, take, drop, length-append}
 use lib.Seq.{take-at, length-take-le}
-use Rattle.theory.specs.declared.Answer.{Answer}
-use Rattle.theory.specs.Answer.{numberOf, rowOf}
+use Rattle.answers.specs.declared.Answer.{Answer}
+use Rattle.answers.specs.Answer.{numberOf, rowOf}
 use Rattle.placement.specs.Figures.{Figures}
 use Rattle.listing.specs.Listing.{ascii, headerLine, decimal, rowLine, rowLines, systemAllowance, listing, refusal}
 use Rattle.listing.proofs.RowLines.{linesFrom, lines-from-row, no-lines-left}

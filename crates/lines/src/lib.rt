@@ -8,7 +8,7 @@ ghost use lib.ListN.{length, getD, take, drop};
 ghost use Rattle.theory.specs.Gather.{best};
 ghost use Rattle.placement.specs.Figures.{figuresFrom};
 ghost use Rattle.listing.specs.Listing.{decimal, rowLine, rowLines, listing, refusal};
-use theory::Answer;
+use answers::Answer;
 
 const HEADER: [u8; 28] = *b"row core response allowance\n";
 
@@ -112,7 +112,7 @@ pub fn write_refusal(text: &mut [u8], answer: Answer) -> usize
     ensures { λ r. ⌜ (take r (now (text .exit)) ≡ refusal answer) × (r ≤ 1102) ⌝ }
 {
     let end = write_bytes(text, 0, b"refused ");
-    let end = write_number(text, end, refusals::number_of(answer), b' ');
+    let end = write_number(text, end, answers::number_of(answer), b' ');
     let end = write_bytes(text, end, b"row ");
-    write_number(text, end, refusals::row_of(answer), b'\n')
+    write_number(text, end, answers::row_of(answer), b'\n')
 }

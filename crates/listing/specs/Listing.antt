@@ -6,8 +6,6 @@ use Prim.Native.String.{String}
 use mathlib.Core.Bool.{true, false}
 use mathlib.Core.List.{List, [], _∷_, _++_}
 use lib.Dec.{ltb}
-use Rattle.theory.specs.declared.Answer.{Answer}
-use Rattle.theory.specs.Answer.{numberOf, rowOf}
 use Rattle.placement.specs.Figures.{Figures}
 
 -- the bytes of a text of ASCII characters
@@ -51,5 +49,5 @@ unfoldable pub listing : List Figures → List ℕ
 listing all = headerLine ++ (rowLines 1 all ++ (ascii "system " ++ (decimal (systemAllowance all) ++ (10 ∷ []))))
 
 -- `refused N row R`
-unfoldable pub refusal : Answer → List ℕ
-refusal answer = ascii "refused " ++ (decimal (numberOf answer) ++ (ascii " row " ++ (decimal (rowOf answer) ++ (10 ∷ []))))
+unfoldable pub refusal : ℕ → ℕ → List ℕ
+refusal number row = ascii "refused " ++ (decimal number ++ (ascii " row " ++ (decimal row ++ (10 ∷ []))))

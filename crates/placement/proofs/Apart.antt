@@ -11,7 +11,7 @@ use Rattle.theory.specs.Points.{lastMultiple, walk, points, slack, floorDiv, ti
 use Rattle.placement.specs.Core.{coreRows}
 use Rattle.placement.specs.Order.{taken}
 use Rattle.placement.specs.Choice.{allowanceFit}
-use Rattle.placement.specs.Placing.{takes, candidateAt, takers, chosenOf, stepOf, Run, placed, stoppedAt, run}
+use Rattle.placement.specs.Computed.{takes, candidateAt, takers, chosenOf, stepOf, Run, placed, stoppedAt, run}
 
 -- C/D/T
 abbrev row : ℕ → ℕ → ℕ → Row

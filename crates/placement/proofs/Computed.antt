@@ -16,7 +16,7 @@ use Rattle.placement.specs.Order.{taken}
 use Rattle.placement.specs.Choice.{Rule, IsRule}
 use Rattle.placement.specs.Placement.{Moment, start, step, Stopped}
 use Rattle.placement.specs.Figures.{IsFigures, AreFigures, Certificate, IsCertificate}
-use Rattle.placement.specs.Placing.{Step, toCore, noCore, stepOf, Run, placed, stoppedAt, run, responseOf, figuresOf, certificateOf, certificate}
+use Rattle.placement.specs.Computed.{Step, toCore, noCore, stepOf, Run, placed, stoppedAt, run, responseOf, figuresOf, certificateOf, certificate}
 use Rattle.placement.proofs.Core.{core-rows-each, StandsAt, row-on-core}
 use Rattle.placement.proofs.Moment.{Underway, underway, all-placed}
 use Rattle.placement.proofs.Determined.{certificate-unique}

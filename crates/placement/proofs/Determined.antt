@@ -6,8 +6,8 @@ use mathlib.Core.Logic.{_⊎_, inl, inr, _↔_}
 use mathlib.Core.List.{List, [], _∷_}
 use lib.Dec.{T}
 use lib.ListN.{length, set}
+use Rattle.theory.specs.Gather.{All}
 use Rattle.theory.proofs.Tests.{equal-or-not, order-cases}
-use Rattle.theory.proofs.Each.{All}
 use Rattle.placement.specs.Core.{Table}
 use Rattle.placement.specs.Order.{taken}
 use Rattle.placement.specs.Choice.{Rule, IsRule, IsChosen, NoCandidate}

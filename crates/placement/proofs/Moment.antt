@@ -6,9 +6,10 @@ use mathlib.Core.Logic.{_⊎_, inl, inr, ⊎-elim}
 use mathlib.Core.List.{List, [], _∷_, List·Memᴰ, List·Memᴰ·cases-cons, List·Memᴰ·not-nil}
 use lib.ListN.{length, set, replicate, length-set, length-replicate, getD-replicate}
 use lib.Seq.{getD-set-same, getD-set-other}
+use Rattle.theory.specs.Gather.{All}
 use Rattle.theory.specs.Response.{AllMeet}
 use Rattle.theory.proofs.Tests.{equal-or-not}
-use Rattle.theory.proofs.Each.{All, all-map, all-both}
+use Rattle.theory.proofs.Each.{all-map, all-both}
 use Rattle.theory.proofs.Order.{Ordered}
 use Rattle.placement.specs.Core.{Table, coreRows, coreOf}
 use Rattle.placement.specs.Order.{taken}

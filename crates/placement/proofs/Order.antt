@@ -7,10 +7,11 @@ use mathlib.Core.Logic.{_⊎_}
 use mathlib.Core.List.{List, List·Memᴰ}
 use lib.Dec.{T}
 use lib.ListN.{length}
+use Rattle.theory.specs.Gather.{All}
 use Rattle.theory.specs.Row.{Row, rowAt, AllWithin}
 use Rattle.theory.specs.Rank.{places}
 use Rattle.theory.proofs.Tests.{less-or-tied, passes-less-or-tied, tied-connected, tied-chain}
-use Rattle.theory.proofs.Each.{All, all-sort}
+use Rattle.theory.proofs.Each.{all-sort}
 use Rattle.theory.proofs.Member.{mem-sort}
 use Rattle.theory.proofs.Places.{places-inside, mem-places}
 use Rattle.theory.proofs.Order.{Ordered, ordered-map, upFrom-ascending, sort-ordered-among, sort-symmetric}

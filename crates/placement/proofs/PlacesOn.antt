@@ -11,9 +11,9 @@ use lib.Dec.{ltb, eqb, eqb→eq, leb·suc-suc}
 use lib.ListN.{length, getD, set, replicate, length-set, length-append}
 use lib.Seq.{getD-append-seam}
 use Rattle.theory.specs.Row.{Row, rowAt}
-use Rattle.theory.specs.Gather.{upFrom, keep, insert}
+use Rattle.theory.specs.Gather.{upFrom, keep, insert, All}
 use Rattle.theory.proofs.Tests.{equal-or-not}
-use Rattle.theory.proofs.Each.{All, insert-cases, all-map, all-keep, keep-passes, all-upFrom}
+use Rattle.theory.proofs.Each.{insert-cases, all-map, all-keep, keep-passes, all-upFrom}
 use Rattle.theory.proofs.Member.{length-upFrom, upFrom-append, length-insert, keep-shift}
 use Rattle.theory.proofs.Order.{Ordered, upFrom-ascending, ordered-keep}
 use Rattle.theory.proofs.At.{each-at, ascending-once}

@@ -7,15 +7,15 @@ use lib.Dec.{T}
 use lib.ListN.{length, set, length-set}
 use lib.Seq.{getD-set-same}
 use Rattle.theory.specs.Row.{WithinLimits, AllWithin}
-use Rattle.theory.specs.Gather.{upFrom, best}
+use Rattle.theory.specs.Gather.{upFrom, best, All}
 use Rattle.theory.specs.Points.{coreAllowance}
-use Rattle.theory.proofs.Each.{All, all-map, all-kept, all-upFrom}
+use Rattle.theory.proofs.Each.{all-map, all-kept, all-upFrom}
 use Rattle.theory.proofs.Member.{all-at, mem-keep, mem-upFrom, mem-map, mem-of-map}
 use Rattle.theory.proofs.Verdict.{AllSteady, within-steady}
 use Rattle.theory.proofs.CoreAllowance.{on-time-meets, meets-on-time, core-allowance-is, core-allowance-unique}
 use Rattle.placement.specs.Core.{Table}
 use Rattle.placement.specs.Choice.{Candidate, Rule, IsRule, joined, IsCandidate, IsChosen, NoCandidate}
-use Rattle.placement.specs.Placing.{takes, candidateAt, takers, Step, toCore, noCore, chosenOf, stepOf}
+use Rattle.placement.specs.Computed.{takes, candidateAt, takers, Step, toCore, noCore, chosenOf, stepOf}
 use Rattle.placement.proofs.Core.{core-rows-each, stands-at}
 use Rattle.placement.proofs.Preferred.{none-preferred}
 

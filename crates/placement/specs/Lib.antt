@@ -4,4 +4,4 @@ pub mod Order
 pub mod Choice
 pub mod Placement
 pub mod Figures
-pub mod Placing
+pub mod Computed

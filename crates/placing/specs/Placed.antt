@@ -1,8 +1,8 @@
 -- A placement as the code leaves it: each row's core in one list, each core's rows beside it.
 use Prim.Native.Nat.{ℕ, suc}
 use mathlib.Core.List.{List, []}
-use Rattle.theory.specs.declared.Answer.{Answer}
-use Rattle.theory.specs.declared.Answer.the-variants.{Accepted, NoCoreTakes}
+use Rattle.answers.specs.declared.Answer.{Answer}
+use Rattle.answers.specs.declared.Answer.the-variants.{Accepted, NoCoreTakes}
 use Rattle.theory.specs.Lists.{rowsOf}
 use Rattle.placement.specs.Core.{Table}
 use Rattle.placement.specs.Choice.{Rule}

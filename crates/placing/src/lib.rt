@@ -4,8 +4,7 @@ ghost use Prim.Native.Nat.{_≤_, _<_};
 ghost use mathlib.Core.List.{map};
 ghost use lib.Dec.{ltb};
 ghost use lib.ListN.{length, replicate};
-ghost use Rattle.theory.proofs.Each.{All};
-ghost use Rattle.theory.specs.Gather.{insert};
+ghost use Rattle.theory.specs.Gather.{insert, All};
 ghost use Rattle.theory.specs.Row.{AllWithin, rowAt};
 ghost use Rattle.theory.specs.Lists.{Shaped, rowsOf};
 ghost use Rattle.placement.specs.Choice.{allowanceFit};
@@ -14,9 +13,9 @@ ghost use Rattle.fits.specs.Fit.{IsFit};
 ghost use Rattle.choices.specs.Among.{IsChoiceAmong};
 ghost use Rattle.placing.specs.Considered.{considered};
 ghost use Rattle.placing.specs.Placed.{tableOf, IsPlaced};
+use answers::Answer;
 use choices::Choice;
 use fits::Fit;
-use theory::Answer;
 
 // Whether a core takes the rows at these places.
 fn fit_at(c: &[u32], d: &[u32], t: &[u32], places: &[usize]) -> Fit

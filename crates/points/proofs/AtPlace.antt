@@ -7,9 +7,10 @@ use native.Mathlib.Omega.{arith}
 use lib.IntN.{ℤ}
 use lib.ListN.{length, getD, take}
 use lib.Seq.{take-take}
+use Rattle.theory.specs.Gather.{All}
 use Rattle.theory.specs.Row.{AllWithin}
 use Rattle.theory.specs.Lists.{Shaped, rowsOf}
-use Rattle.theory.proofs.Each.{All, all-map}
+use Rattle.theory.proofs.Each.{all-map}
 use Rattle.climbs.specs.Ranking.{rankingBy, rivalsIn}
 use Rattle.climbs.proofs.ByRank.{ranking-inside}
 use Rattle.climbs.proofs.InLists.{ranked, ranked-in-lists, order-ranked}

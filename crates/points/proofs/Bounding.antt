@@ -8,7 +8,7 @@ use lib.IntN.{ℤ, pos}
 use lib.ListN.{length, getD, replicate, length-map, getD-replicate}
 use lib.Signed.{_≤ℤ_}
 use Rattle.theory.specs.Row.{Row, WithinLimits, AllWithin}
-use Rattle.theory.specs.Moved.{RaisedTo}
+use Rattle.theory.specs.Moved.{LiftedTo}
 use Rattle.theory.specs.Points.{walk, quotient, IsBound}
 use Rattle.theory.specs.Lists.{Shaped, rowsOf}
 use Rattle.theory.proofs.Signed.{≤ℤ-antisymm}
@@ -60,21 +60,21 @@ module _ (cs ds ts : List ℕ) (shaped : Shaped cs ds ts) (within : AllWithin (r
       its-quotient = sym (same (attained .at)) ∙ attained .gives;
       greatest = λ p m.
           subst (λ (z : ℤ). z ≤ℤ getD best j (pos 0)) (same p)
-          (raised .past-visited p (visited p (subst (List·Memᴰ p) (sym (points-of-rivals cs ds ts shaped k)) m)));
+          (lifted .past-visited p (visited p (subst (List·Memᴰ p) (sym (points-of-rivals cs ds ts shaped k)) m)));
     }
       where
         has-entry : j ≤ length executions
         has-entry = omega (arith, length-map hs (λ x. getD cs x 0))
 
-        raised : RaisedTo (quotientOf (getD cs k 0) executions periods j) Visited (getD (replicate 25 least) j (pos 0)) (getD best j (pos 0))
-        raised = walked j has-entry
+        lifted : LiftedTo (quotientOf (getD cs k 0) executions periods j) Visited (getD (replicate 25 least) j (pos 0)) (getD best j (pos 0))
+        lifted = walked j has-entry
 
         visited : (p : ℕ) → List·Memᴰ p (walk (rowsOf executions periods periods) (length executions) (getD ds k 0)) → Visited p
         visited p m = (m, walk-positive (rowsOf executions periods periods) (length executions) (getD ds k 0) p (omega (arith, limits)) m)
 
         attained : Attained (quotientOf (getD cs k 0) executions periods j) Visited (getD best j (pos 0))
         attained =
-            moved-attains (λ a b. a ≤ℤ b) ≤ℤ-antisymm _ _ _ _ raised (getD ds k 0)
+            moved-attains (λ a b. a ≤ℤ b) ≤ℤ-antisymm _ _ _ _ lifted (getD ds k 0)
             (visited (getD ds k 0) (walk-start (rowsOf executions periods periods) (length executions) (getD ds k 0)))
             (rw (getD-replicate 25 j least (pos 0) (omega (arith, has-entry, small .few))) (least-below _ _ _ (omega (arith, limits)) small j _ (omega (arith, limits))))
 

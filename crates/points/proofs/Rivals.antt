@@ -4,10 +4,11 @@ use Prim.Native.Nat.{ℕ, _<_}
 use mathlib.Core.List.{List, List·Memᴰ}
 use lib.Dec.{T}
 use lib.ListN.{length}
+use Rattle.theory.specs.Gather.{All}
 use Rattle.theory.specs.Row.{Row}
 use Rattle.theory.specs.Rank.{above, rival, rivals}
 use Rattle.theory.specs.Lists.{Shaped, rowsOf}
-use Rattle.theory.proofs.Each.{All, all-sort}
+use Rattle.theory.proofs.Each.{all-sort}
 use Rattle.theory.proofs.Member.{mem-sort}
 use Rattle.theory.proofs.Rank.{all-rivals, mem-rivals}
 use Rattle.climbs.specs.Ranking.{rankingBy, rivalsIn}

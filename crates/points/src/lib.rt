@@ -3,9 +3,10 @@ ghost use mathlib.Core.Path.{_≡_};
 ghost use Prim.Native.Nat.{ℕ, _≤_, _<_};
 ghost use lib.IntN.{pos};
 ghost use lib.ListN.{length, getD, take, set};
-ghost use Rattle.theory.proofs.Each.{All};
+ghost use Rattle.theory.specs.Gather.{All};
 ghost use Rattle.theory.specs.Moved.{LoweredTo, smaller};
 ghost use Rattle.theory.specs.Row.{AllWithin};
+ghost use Rattle.theory.specs.Response.{AllMeet};
 ghost use Rattle.theory.specs.Points.{IsPointAllowance};
 ghost use Rattle.theory.specs.Lists.{Shaped, rowsOf};
 ghost use Rattle.demands.specs.Levels.{Small};
@@ -73,7 +74,7 @@ pub fn point_allowances(c: &[u32], d: &[u32], t: &[u32], order: &[usize; 24]) ->
 }
 
 // Allowances that are no negative numbers, as 32-bit numbers.
-pub fn as_numbers(allowed: &[i64]) -> [u32; 24]
+fn as_numbers(allowed: &[i64]) -> [u32; 24]
     requires { ⌜ length (now allowed) ≤ 24 ⌝ }
     requires { ⌜ ((i : ℕ) → i < length (now allowed) → IsSmall (getD (now allowed) i (pos 0))) ⌝ }
     ensures { λ r. ⌜ ((i : ℕ) → i < length (now (allowed .entry)) → pos (getD r i 0) ≡ getD (now (allowed .entry)) i (pos 0)) ⌝ }
@@ -86,4 +87,16 @@ pub fn as_numbers(allowed: &[i64]) -> [u32; 24]
         i += 1;
     }
     numbers
+}
+
+// The point allowance of each row of a set that is on time, where it is no negative number.
+pub fn allowances_by_points(c: &[u32], d: &[u32], t: &[u32], order: &[usize; 24]) -> [u32; 24]
+    requires { ⌜ Shaped (now c) (now d) (now t) × AllWithin (rowsOf (now c) (now d) (now t)) ⌝ }
+    requires { ⌜ take (length (now d)) (now order) ≡ rankingBy (now d) ⌝ }
+    requires { ⌜ AllMeet (rowsOf (now c) (now d) (now t)) ⌝ }
+    ensures { λ r. ⌜ ((i : ℕ) → i < length (now (c .entry)) → IsPointAllowance (rowsOf (now (c .entry)) (now (d .entry)) (now (t .entry))) i (pos (getD r i 0))) ⌝ }
+    ensures { λ r. ⌜ length r ≡ 24 ⌝ }
+{
+    let signed = point_allowances(c, d, t, order);
+    as_numbers(&signed[..c.len()])
 }

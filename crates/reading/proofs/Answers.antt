@@ -4,9 +4,9 @@ use mathlib.Core.Bool.{Bool, true, false}
 use native.Mathlib.Omega.{arith}
 use lib.Dec.{eqb}
 use borrow.Author.Tests.{eqb-true, eqb-false}
-use Rattle.theory.specs.declared.Answer.{Answer}
-use Rattle.theory.specs.declared.Answer.the-variants.{Accepted, RecordsBroken, CoresOutOfRange, RowsOutOfRange, RowBreaksLimits, CountDiffers, NoCoreTakes, OutputTooShort, RowMisses}
-use Rattle.theory.specs.Answer.{numberOf}
+use Rattle.answers.specs.declared.Answer.{Answer}
+use Rattle.answers.specs.declared.Answer.the-variants.{Accepted, RecordsBroken, CoresOutOfRange, RowsOutOfRange, RowBreaksLimits, CountDiffers, NoCoreTakes, OutputTooShort, RowMisses}
+use Rattle.answers.specs.Answer.{numberOf}
 use Rattle.records.specs.Reading.{Reading, table, refused}
 use Rattle.reading.specs.declared.Read.{Read}
 use Rattle.reading.specs.Held.{heldRows, heldTable, Held, IsRead, refusal, whole}

@@ -7,7 +7,7 @@ use native.Mathlib.Omega.{arith}
 use lib.Dec.{leb, eqb}
 use lib.ListN.{length, getD, drop}
 use borrow.Author.Tests.{eq-eqb, ne-eqb, le-leb, leb-true}
-use Rattle.theory.specs.declared.Answer.the-variants.{RecordsBroken, CoresOutOfRange}
+use Rattle.answers.specs.declared.Answer.the-variants.{RecordsBroken, CoresOutOfRange}
 use Rattle.theory.proofs.Limits.{both-pass}
 use Rattle.records.specs.Reading.{Reading, refused, readRows, readCores, readTable}
 

@@ -5,7 +5,7 @@ use mathlib.Core.List.{List, [], _∷_}
 use native.Mathlib.Omega.{arith}
 use lib.ListN.{length, getD, length-drop, drop-of-length-le}
 use borrow.Author.Tests.{eq-eqb, ne-eqb}
-use Rattle.theory.specs.declared.Answer.the-variants.{Accepted, RecordsBroken, RowsOutOfRange, CountDiffers}
+use Rattle.answers.specs.declared.Answer.the-variants.{Accepted, RecordsBroken, RowsOutOfRange, CountDiffers}
 use Rattle.theory.specs.Row.{Row}
 use Rattle.records.specs.Reading.{readCount}
 use Rattle.reading.specs.Next.{endedWith, IsCount}

@@ -7,8 +7,8 @@ use native.Mathlib.Omega.{arith}
 use native.Mathlib.Numerals.{add-one}
 use lib.ListN.{length, getD, drop, length-drop, drop-of-length-le}
 use borrow.Author.Tests.{le-leb, lt-leb, ne-eqb}
-use Rattle.theory.specs.declared.Answer.{Answer}
-use Rattle.theory.specs.declared.Answer.the-variants.{RecordsBroken, RowsOutOfRange, RowBreaksLimits}
+use Rattle.answers.specs.declared.Answer.{Answer}
+use Rattle.answers.specs.declared.Answer.the-variants.{RecordsBroken, RowsOutOfRange, RowBreaksLimits}
 use Rattle.theory.specs.Row.{Row, withinLimits}
 use Rattle.records.specs.Number.{numberAt}
 use Rattle.records.specs.Reading.{Reading, rowIn, readRow, readRecord, readRows}

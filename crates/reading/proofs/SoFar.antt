@@ -3,7 +3,7 @@ use mathlib.Core.Path.{_≡_, refl, _∙_}
 use Prim.Native.Nat.{ℕ, _+_, _-_, _≤_}
 use mathlib.Core.List.{List, []}
 use lib.ListN.{length, drop, set}
-use Rattle.theory.specs.declared.Answer.{Answer}
+use Rattle.answers.specs.declared.Answer.{Answer}
 use Rattle.theory.specs.Lists.{rowsOf}
 use Rattle.records.specs.Reading.{readRows}
 use Rattle.reading.specs.declared.Next.the-variants.{Ends}

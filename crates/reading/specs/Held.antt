@@ -3,8 +3,8 @@ use mathlib.Core.Path.{_≡_}
 use Prim.Native.Nat.{ℕ, _≤_}
 use mathlib.Core.List.{List}
 use lib.ListN.{length, take}
-use Rattle.theory.specs.declared.Answer.the-variants.{Accepted}
-use Rattle.theory.specs.Answer.{numberOf}
+use Rattle.answers.specs.declared.Answer.the-variants.{Accepted}
+use Rattle.answers.specs.Answer.{numberOf}
 use Rattle.theory.specs.Row.{Row}
 use Rattle.theory.specs.Lists.{rowsOf}
 use Rattle.placement.specs.Core.{Table}

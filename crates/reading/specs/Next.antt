@@ -5,8 +5,8 @@ use mathlib.Core.Bool.{true, false}
 use mathlib.Core.List.{List, [], _∷_, _++_}
 use lib.Dec.{eqb}
 use lib.ListN.{length, drop}
-use Rattle.theory.specs.declared.Answer.{Answer}
-use Rattle.theory.specs.Answer.{numberOf}
+use Rattle.answers.specs.declared.Answer.{Answer}
+use Rattle.answers.specs.Answer.{numberOf}
 use Rattle.theory.specs.Row.{Row}
 use Rattle.records.specs.Reading.{Reading, table, refused, readCount, readRows}
 use Rattle.reading.specs.declared.Next.{Next}

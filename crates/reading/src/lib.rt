@@ -6,7 +6,7 @@ ghost use lib.ListN.{length, drop};
 ghost use Rattle.records.specs.Reading.{readRows, readTable};
 ghost use Rattle.reading.specs.Next.{IsCount, IsNext};
 ghost use Rattle.reading.specs.Held.{IsRead};
-use theory::Answer;
+use answers::Answer;
 
 // What is read: Accepted and the table, n rows at the fronts of the arrays; or a refusal.
 pub struct Read {

@@ -9,7 +9,6 @@ use lib.ListN.{length, take, drop, length-take}
 use lib.Seq.{take-take, take-nil}
 use borrow.Author.Tests.{leb-true, leb-false}
 use Rattle.theory.specs.Row.{Row, withinLimits}
-use Rattle.theory.specs.declared.Answer.the-variants.{RecordsBroken, CoresOutOfRange, RowBreaksLimits}
 use Rattle.records.specs.Number.{numberAt, bigEndianFrom}
 use Rattle.records.specs.Reading.{Reading, refused, rowIn, readCount, readRow, readRecord, readRows, readCores, readTable}
 
@@ -55,7 +54,7 @@ module _ (m : ℕ) (body : List ℕ) (whole : 12 ≤ m) where
     where
       judged : Bool → Row → Reading → Reading
       judged long row then =
-          elim long [ true ↦ elim (withinLimits row) [ true ↦ then | false ↦ refused (RowBreaksLimits (suc (length rows))) ] | false ↦ refused RecordsBroken ]
+          elim long [ true ↦ elim (withinLimits row) [ true ↦ then | false ↦ refused 4 (suc (length rows)) ] | false ↦ refused 1 0 ]
 
 -- behind a kind 4 byte two bytes tell
 count-in-front : (m cores : ℕ) (rows : List Row) (body : List ℕ) → 2 ≤ m → readCount cores rows (take m body) ≡ readCount cores rows body
@@ -75,7 +74,7 @@ unfolding readRecord
 record-in-front zero cores rows row bytes h body = absurd (omega arith)
 record-in-front (suc m) cores rows row [] h row-body = refl
 record-in-front (suc m) cores rows row (kind ∷ body) h row-body =
-    ap₂ (λ (x y : Reading). elim (eqb kind 2) [ true ↦ x | false ↦ elim (eqb kind 4) [ true ↦ y | false ↦ refused RecordsBroken ] ]) (row-body m body refl) (count-in-front m cores rows body (omega arith))
+    ap₂ (λ (x y : Reading). elim (eqb kind 2) [ true ↦ x | false ↦ elim (eqb kind 4) [ true ↦ y | false ↦ refused 1 0 ] ]) (row-body m body refl) (count-in-front m cores rows body (omega arith))
 
 -- with so many rows to come, the bytes of as many records and three more tell
 rows-in-front : (left m cores : ℕ) (rows : List Row) (bytes : List ℕ) → 13 * left + 3 ≤ m → readRows left cores rows (take m bytes) ≡ readRows left cores rows bytes
@@ -93,7 +92,7 @@ table-in-front (kind ∷ []) = refl
 table-in-front (kind ∷ (cores ∷ bytes)) =
     ap
     (λ (rows : Reading). elim (eqb kind 1) [
-      | true ↦ elim (leb 1 cores && leb cores 8) [ true ↦ rows | false ↦ refused CoresOutOfRange ]
-      | false ↦ refused RecordsBroken
+      | true ↦ elim (leb 1 cores && leb cores 8) [ true ↦ rows | false ↦ refused 2 0 ]
+      | false ↦ refused 1 0
     ])
     (rows-in-front 24 315 cores [] bytes (omega arith))

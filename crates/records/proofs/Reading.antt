@@ -9,7 +9,6 @@ use lib.Dec.{leb, eqb}
 use lib.ListN.{length, drop}
 use lib.Seq.{append-snoc}
 use borrow.Author.Tests.{leb-true, eqb-true}
-use Rattle.theory.specs.declared.Answer.the-variants.{RowsOutOfRange}
 use Rattle.theory.specs.Row.{Row, WithinLimits, AllWithin}
 use Rattle.theory.proofs.Limits.{both-pass}
 use Rattle.placement.specs.Core.{Table}
@@ -71,7 +70,7 @@ rows-read : (left cores : ℕ) (rows : List Row) (bytes : List ℕ) (t : Table) 
 unfolding readRows
 rows-read zero cores rows bytes t e = go (record-read cores rows _ bytes t e)
   where
-    go : RecordRead cores rows (λ body. refused RowsOutOfRange) bytes t → RowsRead zero cores rows bytes t
+    go : RecordRead cores rows (λ body. refused 3 0) bytes t → RowsRead zero cores rows bytes t
     go (row-record body is-row e) = absurd (refusal-no-table e)
     go (count-record is-count some is-table) = count-ends zero cores rows t bytes is-count some is-table
 rows-read (suc left) cores rows bytes t e = go (λ rows bytes e. rows-read left cores rows bytes t e) (record-read cores rows _ bytes t e)
@@ -94,10 +93,10 @@ record TableRead (bytes : List ℕ) (t : Table) : Type 0 where
 table-read : (bytes : List ℕ) (t : Table) → readTable bytes ≡ table t → TableRead bytes t
 unfolding readTable readCores tableBytes tableRecords
 table-read [] t e = absurd (refusal-no-table e)
-table-read (kind ∷ []) t e = absurd (refusal-no-table (test-passed (eqb kind 1) _ _ e .1))
+table-read (kind ∷ []) t e = absurd (refusal-no-table (test-passed (eqb kind 1) _ _ _ e .1))
 table-read (kind ∷ (cores ∷ after)) t e =
-    let is-first = test-passed (eqb kind 1) _ _ e in
-    let in-range = test-passed (leb 1 cores && leb cores _) _ _ (is-first .1) in
+    let is-first = test-passed (eqb kind 1) _ _ _ e in
+    let in-range = test-passed (leb 1 cores && leb cores _) _ _ _ (is-first .1) in
     let range = both-pass (leb 1 cores) (leb cores _) (in-range .0) in
     let rows = rows-read _ cores [] after t (in-range .1) in
     record {

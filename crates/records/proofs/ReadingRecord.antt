@@ -8,7 +8,6 @@ use lib.Dec.{leb, eqb}
 use lib.ListN.{length, drop, length-drop}
 use lib.Seq.{drop-drop}
 use borrow.Author.Tests.{leb-true, eqb-true}
-use Rattle.theory.specs.declared.Answer.{Answer}
 use Rattle.theory.specs.Row.{Row, WithinLimits, withinLimits}
 use Rattle.theory.proofs.Limits.{passing-keeps-limits}
 use Rattle.placement.specs.Core.{Table}
@@ -18,16 +17,16 @@ use Rattle.records.specs.Report.{rowRecord, countRecord}
 use Rattle.records.proofs.Number.{AllBelow, all-below-drop, number-reads-back, front-number-bytes}
 
 -- a refusal is no table
-pub refusal-no-table : {answer : Answer} {t : Table} → refused answer ≡ table t → ⊥
+pub refusal-no-table : {number row : ℕ} {t : Table} → refused number row ≡ table t → ⊥
 refusal-no-table e = let z : _≡_ {A = ℕ} 0 1 = cc in omega arith
 
 -- a reading that a test decides, and that is a table: the test passed
 pub test-passed :
-    (test : Bool) (x : Reading) (answer : Answer) {t : Table}
-    → elim test as (λ b. Reading) [ true ↦ x | false ↦ refused answer ] ≡ table t
+    (test : Bool) (x : Reading) (number row : ℕ) {t : Table}
+    → elim test as (λ b. Reading) [ true ↦ x | false ↦ refused number row ] ≡ table t
     → (test ≡ true) × (x ≡ table t)
-test-passed true x answer e = (refl, e)
-test-passed false x answer e = absurd (refusal-no-table e)
+test-passed true x number row e = (refl, e)
+test-passed false x number row e = absurd (refusal-no-table e)
 
 -- what a record was that was read on the way to a table
 pub data RecordRead (cores : ℕ) (rows : List Row) (row : List ℕ → Reading) (bytes : List ℕ) (t : Table) : Type 0 where
@@ -42,10 +41,10 @@ unfolding readCount
 count-read cores rows row [] t e = absurd (refusal-no-table e)
 count-read cores [] row (count ∷ after) t e = absurd (refusal-no-table e)
 count-read cores (first ∷ rows) row (count ∷ []) t e =
-    let passed = test-passed (eqb count _) _ _ e in
+    let passed = test-passed (eqb count _) _ _ _ e in
     let count-right = eqb-true count _ (passed .0) in
     count-record (cc) (omega arith) (cc)
-count-read cores (first ∷ rows) row (count ∷ (byte ∷ after)) t e = absurd (refusal-no-table (test-passed (eqb count _) _ _ e .1))
+count-read cores (first ∷ rows) row (count ∷ (byte ∷ after)) t e = absurd (refusal-no-table (test-passed (eqb count _) _ _ _ e .1))
 
 -- a record that is read on the way to a table is a row's or the count's
 pub record-read :
@@ -58,7 +57,7 @@ record-read cores rows row (kind ∷ body) t e = go (eqb kind 2) refl
     go : (is-row : Bool) → eqb kind 2 ≡ is-row → RecordRead cores rows row (kind ∷ body) t
     go true is-row = row-record body (cc (eqb-true kind 2 is-row)) (rw (is-row, readRecord) at e)
     go false no-row =
-        let passed = test-passed (eqb kind 4) _ _ (rw (no-row, readRecord) at e) in
+        let passed = test-passed (eqb kind 4) _ _ _ (rw (no-row, readRecord) at e) in
         rw (eqb-true kind 4 (passed .0)) (count-read cores rows row body t (passed .1))
 
 -- what the body of a kind 2 record was that was read on the way to a table
@@ -71,8 +70,8 @@ pub record RowRead (next : Row → List ℕ → Reading) (body : List ℕ) (t : 
 pub row-read : (rows : List Row) (next : Row → List ℕ → Reading) (body : List ℕ) (t : Table) → readRow rows next body ≡ table t → RowRead next body t
 unfolding readRow
 row-read rows next body t e =
-    let long = test-passed (leb 12 (length body)) _ _ e in
-    let passed = test-passed (withinLimits (rowIn body)) _ _ (long .1) in
+    let long = test-passed (leb 12 (length body)) _ _ _ e in
+    let passed = test-passed (withinLimits (rowIn body)) _ _ _ (long .1) in
     record { whole = leb-true 12 (length body) (long .0); within = passing-keeps-limits (rowIn body) (passed .0); goes-on = passed .1 }
 
 -- the body of a kind 2 record, with what comes after

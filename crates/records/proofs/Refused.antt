@@ -6,9 +6,6 @@ use mathlib.Core.List.{List, [], _∷_, _++_}
 use native.Mathlib.Omega.{arith}
 use lib.Dec.{leb, eqb}
 use lib.ListN.{length, drop}
-use Rattle.theory.specs.declared.Answer.{Answer}
-use Rattle.theory.specs.declared.Answer.the-variants.{RecordsBroken, CoresOutOfRange, RowsOutOfRange, RowBreaksLimits, CountDiffers}
-use Rattle.theory.specs.Answer.{numberOf}
 use Rattle.theory.specs.Row.{Row, withinLimits}
 use Rattle.placement.specs.Core.{Table}
 use Rattle.records.specs.Reading.{Reading, table, refused, rowIn, readCount, readRow, readRecord, readRows, readCores, readTable}
@@ -16,11 +13,11 @@ use Rattle.records.specs.Reading.{Reading, table, refused, rowIn, readCo
 -- what bytes can be: a table, or a refusal 1 to 5
 data TableOr1To5 : Reading → Type 0 where
   a-table : (t : Table) → TableOr1To5 (table t)
-  number-1 : TableOr1To5 (refused RecordsBroken)
-  number-2 : TableOr1To5 (refused CoresOutOfRange)
-  number-3 : TableOr1To5 (refused RowsOutOfRange)
-  number-4 : (row : ℕ) → TableOr1To5 (refused (RowBreaksLimits row))
-  number-5 : TableOr1To5 (refused CountDiffers)
+  number-1 : TableOr1To5 (refused 1 0)
+  number-2 : TableOr1To5 (refused 2 0)
+  number-3 : TableOr1To5 (refused 3 0)
+  number-4 : (row : ℕ) → TableOr1To5 (refused 4 row)
+  number-5 : TableOr1To5 (refused 5 0)
 
 -- a test between two such readings
 tested : (test : Bool) (x y : Reading) → TableOr1To5 x → TableOr1To5 y → TableOr1To5 (elim test [ true ↦ x | false ↦ y ])
@@ -58,10 +55,10 @@ table-read (kind ∷ []) = tested (eqb kind 1) _ _ number-1 number-1
 table-read (kind ∷ (cores ∷ after)) = tested (eqb kind 1) _ _ (tested (leb 1 cores && leb cores _) _ _ (rows-read _ cores [] after) number-2) number-1
 
 -- the number of a refusal of reading is from 1 to 5
-pub refused-from-1-to-5 : (bytes : List ℕ) (answer : Answer) → readTable bytes ≡ refused answer → (1 ≤ numberOf answer) × (numberOf answer ≤ 5)
-refused-from-1-to-5 bytes answer is-refused = go (subst TableOr1To5 is-refused (table-read bytes))
+pub refused-from-1-to-5 : (bytes : List ℕ) (number row : ℕ) → readTable bytes ≡ refused number row → (1 ≤ number) × (number ≤ 5)
+refused-from-1-to-5 bytes number row is-refused = go (subst TableOr1To5 is-refused (table-read bytes))
   where
-    go : {answer : Answer} → TableOr1To5 (refused answer) → (1 ≤ numberOf answer) × (numberOf answer ≤ 5)
+    go : {number row : ℕ} → TableOr1To5 (refused number row) → (1 ≤ number) × (number ≤ 5)
     go number-1 = (omega arith, omega arith)
     go number-2 = (omega arith, omega arith)
     go number-3 = (omega arith, omega arith)

@@ -3,8 +3,7 @@ use mathlib.Core.Path.{_≡_}
 use Prim.Native.Nat.{ℕ, _%_}
 use mathlib.Core.List.{List, [], _∷_, flatMap}
 use lib.ListN.{length}
-use Rattle.theory.specs.declared.Answer.{Answer}
-use Rattle.theory.specs.declared.Answer.the-variants.{RowsOutOfRange}
+use Rattle.theory.specs.Returned.{Returned, returned}
 use Rattle.theory.specs.Row.{Row}
 use Rattle.theory.specs.Lists.{Answered, filled}
 use Rattle.records.specs.Number.{bigEndianFrom, fourBytes}
@@ -25,14 +24,14 @@ bytesOf numbers = flatMap fourBytes numbers
 abbrev pub Fours : List ℕ → Type 0
 Fours bytes = length bytes % 4 ≡ 0
 
--- What a list service answers on bytes, and what its two lent byte strings hold at the end: refusal 3 for a length that is not a
--- multiple of four, else what the service answers on the numbers that the bytes are. Bytes beyond the answers are kept.
-pub data BytesAnswered (Allowance : List Row → ℕ → ℕ → Type 0) (cs ds ts responses allowances : List ℕ) : Answer → List ℕ → List ℕ → Type 0 where
+-- What a list service returns on bytes, and what its two lent byte strings hold at the end: refusal 3 for a length that is not a
+-- multiple of four, else what the service returns on the numbers that the bytes are. Bytes beyond the answers are kept.
+pub data BytesAnswered (Allowance : List Row → ℕ → ℕ → Type 0) (cs ds ts responses allowances : List ℕ) : Returned → List ℕ → List ℕ → Type 0 where
   not-fours :
       (Fours cs × Fours ds × Fours ts → ⊥)
-      → BytesAnswered Allowance cs ds ts responses allowances RowsOutOfRange responses allowances
+      → BytesAnswered Allowance cs ds ts responses allowances (returned 3 0) responses allowances
   as-numbers :
-      (answer : Answer) (Rs As : List ℕ)
+      (returns : Returned) (Rs As : List ℕ)
       → Fours cs × Fours ds × Fours ts
-      → Answered Allowance (numbersIn cs) (numbersIn ds) (numbersIn ts) (numbersIn responses) (numbersIn allowances) answer Rs As
-      → BytesAnswered Allowance cs ds ts responses allowances answer (filled (bytesOf Rs) responses) (filled (bytesOf As) allowances)
+      → Answered Allowance (numbersIn cs) (numbersIn ds) (numbersIn ts) (numbersIn responses) (numbersIn allowances) returns Rs As
+      → BytesAnswered Allowance cs ds ts responses allowances returns (filled (bytesOf Rs) responses) (filled (bytesOf As) allowances)

@@ -3,8 +3,8 @@ use Prim.Native.Nat.{ℕ, suc, _≤_, _<_}
 use mathlib.Core.Logic.{_⊎_}
 use mathlib.Core.List.{List}
 use lib.ListN.{length}
-use Rattle.theory.specs.declared.Answer.{Answer}
-use Rattle.theory.specs.declared.Answer.the-variants.{Accepted, RowsOutOfRange, RowBreaksLimits, OutputTooShort}
+use Rattle.answers.specs.declared.Answer.{Answer}
+use Rattle.answers.specs.declared.Answer.the-variants.{Accepted, RowsOutOfRange, RowBreaksLimits, OutputTooShort}
 use Rattle.theory.specs.Row.{AllWithin, FirstBroken}
 use Rattle.theory.specs.Lists.{rowsOf, Shaped}
 

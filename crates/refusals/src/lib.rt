@@ -2,11 +2,10 @@
 ghost use mathlib.Core.Path.{_≡_};
 ghost use Prim.Native.Nat.{ℕ, _≤_, _<_};
 ghost use lib.ListN.{length, getD};
-ghost use Rattle.theory.specs.Answer.{numberOf, rowOf};
 ghost use Rattle.theory.specs.Row.{withinLimits, WithinLimits, rowAt};
 ghost use Rattle.theory.specs.Lists.{Shaped, rowsOf};
 ghost use Rattle.refusals.specs.Checked.{Checked};
-use theory::Answer;
+use answers::Answer;
 
 // Whether a row keeps the limits.
 pub fn within_limits(c: u32, d: u32, t: u32) -> bool
@@ -69,38 +68,4 @@ pub fn check_lists(c: &[u32], d: &[u32], t: &[u32], responses: usize, allowances
         return Answer::OutputTooShort;
     }
     Answer::Accepted
-}
-
-// The number of an answer: 0 for an accepted call, else the refusal's.
-pub fn number_of(answer: Answer) -> u32
-    ensures { λ r. ⌜ r ≡ numberOf answer ⌝ }
-{
-    match answer {
-        Answer::Accepted => 0,
-        Answer::RecordsBroken => 1,
-        Answer::CoresOutOfRange => 2,
-        Answer::RowsOutOfRange => 3,
-        Answer::RowBreaksLimits(_) => 4,
-        Answer::CountDiffers => 5,
-        Answer::NoCoreTakes(_) => 6,
-        Answer::OutputTooShort => 7,
-        Answer::RowMisses(_) => 8,
-    }
-}
-
-// The row of an answer, from 1; 0 where it names none.
-pub fn row_of(answer: Answer) -> u32
-    ensures { λ r. ⌜ r ≡ rowOf answer ⌝ }
-{
-    match answer {
-        Answer::Accepted => 0,
-        Answer::RecordsBroken => 0,
-        Answer::CoresOutOfRange => 0,
-        Answer::RowsOutOfRange => 0,
-        Answer::RowBreaksLimits(row) => row,
-        Answer::CountDiffers => 0,
-        Answer::NoCoreTakes(row) => row,
-        Answer::OutputTooShort => 0,
-        Answer::RowMisses(row) => row,
-    }
 }

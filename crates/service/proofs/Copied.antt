@@ -6,9 +6,7 @@ use native.Mathlib.Omega.{arith}
 use native.Mathlib.Nat.{le-of-suc-le-suc}
 use lib.ListN.{length, take, drop, take-append-drop}
 use lib.Seq.{drop-drop, take-at}
-use Rattle.theory.specs.declared.Answer.{Answer}
-use Rattle.theory.specs.declared.Answer.the-variants.{Accepted}
-use Rattle.theory.specs.Answer.{numberOf}
+use Rattle.theory.specs.Returned.{Returned, returned}
 use Rattle.theory.specs.Row.{Row, rowAt, AllWithin}
 use Rattle.theory.specs.Lists.{filled}
 use Rattle.placement.specs.Core.{Table}
@@ -47,14 +45,14 @@ module _ (rule : Rule) (t : Table) (within : TableWithin t) (report : List ℕ) 
   own-table u reads = let own = table-reads-back t within in cc
 
   -- AN ACCEPTED REPORT BEGINS WITH THE TABLE
-  pub table-copied : {answer : Answer} {after : List ℕ} → TableAnswered rule (tableBytes t) report answer after → answer ≡ Accepted → take copied after ≡ tableRecords t
-  table-copied (TableAnswered.not-a-table answer refused) accepted = absurd (refusal-no-table (sym refused ∙ table-reads-back t within))
-  table-copied (TableAnswered.output-too-short u reads short) accepted = absurd (let z : _≡_ {A = ℕ} 7 0 = ap numberOf accepted in omega arith)
-  table-copied (TableAnswered.no-core-takes u i reads long stopped) accepted = absurd (let z : _≡_ {A = ℕ} 6 0 = ap numberOf accepted in omega arith)
+  pub table-copied : {returns : Returned} {after : List ℕ} → TableAnswered rule (tableBytes t) report returns after → returns ≡ returned 0 0 → take copied after ≡ tableRecords t
+  table-copied (TableAnswered.not-a-table number row refused) accepted = absurd (refusal-no-table (sym refused ∙ table-reads-back t within))
+  table-copied (TableAnswered.output-too-short u reads short) accepted = absurd (let z : _≡_ {A = ℕ} 7 0 = ap (λ (r : Returned). r .number) accepted in omega arith)
+  table-copied (TableAnswered.no-core-takes u i reads long stopped) accepted = absurd (let z : _≡_ {A = ℕ} 6 0 = ap (λ (r : Returned). r .number) accepted in omega arith)
   table-copied (TableAnswered.accepted u all reads long certified) accepted = ap (λ (x : Table). take copied (filled (reportBytes x all) report)) (own-table u reads) ∙ begins all
 
   -- behind the kind of its record each row stands in it
-  pub row-copied : {answer : Answer} {after : List ℕ} → TableAnswered rule (tableBytes t) report answer after → answer ≡ Accepted
+  pub row-copied : {returns : Returned} {after : List ℕ} → TableAnswered rule (tableBytes t) report returns after → returns ≡ returned 0 0
       → (i : ℕ)
       → i < length (t .rows)
       → rowIn (drop (3 + 13 * i) after) ≡ rowAt (t .rows) i

@@ -4,8 +4,7 @@ use Prim.Native.Nat.{ℕ, suc, _≤_, _<_}
 use mathlib.Core.List.{List}
 use native.Mathlib.Omega.{arith}
 use lib.ListN.{length}
-use Rattle.theory.specs.declared.Answer.{Answer}
-use Rattle.theory.specs.declared.Answer.the-variants.{Accepted, NoCoreTakes, OutputTooShort}
+use Rattle.theory.specs.Returned.{Returned, returned}
 use Rattle.theory.specs.Lists.{filled}
 use Rattle.placement.specs.Core.{Table}
 use Rattle.placement.specs.Choice.{Rule, IsRule}
@@ -18,7 +17,7 @@ use Rattle.listing.specs.Listing.{listing, refusal}
 use Rattle.service.specs.Table.{TableAnswered, Listed, ListingAnswered}
 
 -- two results of the table service that are the same
-pub record Same (answer other : Answer) (report other-report : List ℕ) : Type 0 where
+pub record Same (answer other : Returned) (report other-report : List ℕ) : Type 0 where
   pub same-answer : answer ≡ other
   pub same-report : report ≡ other-report
 
@@ -27,11 +26,11 @@ module _ (rule : Rule) (is-rule : IsRule rule) (bytes : List ℕ) where
   one-table : (t u : Table) → readTable bytes ≡ table t → readTable bytes ≡ table u → t ≡ u
   one-table t u p q = cc
 
-  one-refusal : (a b : Answer) → readTable bytes ≡ refused a → readTable bytes ≡ refused b → a ≡ b
-  one-refusal a b p q = cc
+  one-refusal : (a b x y : ℕ) → readTable bytes ≡ refused a x → readTable bytes ≡ refused b y → (a ≡ b) × (x ≡ y)
+  one-refusal a b x y p q = (cc, cc)
 
-  not-both : {X : Type 0} (t : Table) (a : Answer) → readTable bytes ≡ table t → readTable bytes ≡ refused a → X
-  not-both t a p q = absurd (let z : _≡_ {A = ℕ} 0 1 = cc in omega arith)
+  not-both : {X : Type 0} (t : Table) (a x : ℕ) → readTable bytes ≡ table t → readTable bytes ≡ refused a x → X
+  not-both t a x p q = absurd (let z : _≡_ {A = ℕ} 0 1 = cc in omega arith)
 
   -- a table has one certificate
   one-certificate : (t u : Table) (c d : Certificate) → readTable bytes ≡ table t → readTable bytes ≡ table u → IsCertificate rule t c → IsCertificate rule u d → c ≡ d
@@ -56,44 +55,44 @@ module _ (rule : Rule) (is-rule : IsRule rule) (bytes : List ℕ) where
   short-and-long report t u p q s l = absurd (let e : t ≡ u = one-table t u p q in let n : length (t .rows) ≡ length (u .rows) = ap (λ (x : Table). length (x .rows)) e in omega arith)
 
   module _ (report : List ℕ) where
-    refused-alike : (a b : Answer) → a ≡ b → Same a b report report
+    refused-alike : (a b : Returned) → a ≡ b → Same a b report report
     refused-alike a b e = record { same-answer = e; same-report = refl }
 
     both-accepted : (t u : Table) (all others : List Figures) → t ≡ u → all ≡ others
-        → Same Accepted Accepted (filled (reportBytes t all) report) (filled (reportBytes u others) report)
+        → Same (returned 0 0) (returned 0 0) (filled (reportBytes t all) report) (filled (reportBytes u others) report)
     both-accepted t u all others e f = record {
       same-answer = refl;
       same-report = ap (λ (x : Table). filled (reportBytes x all) report) e ∙ ap (λ (x : List Figures). filled (reportBytes u x) report) f;
     }
 
     -- THE PROMISE DETERMINES THE RESULT
-    pub table-answered-unique : {a b : Answer} {first second : List ℕ} → TableAnswered rule bytes report a first → TableAnswered rule bytes report b second → Same a b first second
-    table-answered-unique (TableAnswered.not-a-table a p) (TableAnswered.not-a-table b q) = refused-alike a b (one-refusal a b p q)
-    table-answered-unique (TableAnswered.not-a-table a p) (TableAnswered.output-too-short u q r) = not-both u a q p
-    table-answered-unique (TableAnswered.not-a-table a p) (TableAnswered.no-core-takes u j q m r) = not-both u a q p
-    table-answered-unique (TableAnswered.not-a-table a p) (TableAnswered.accepted u others q m d) = not-both u a q p
-    table-answered-unique (TableAnswered.output-too-short t p s) (TableAnswered.not-a-table b q) = not-both t b p q
-    table-answered-unique (TableAnswered.output-too-short t p s) (TableAnswered.output-too-short u q r) = refused-alike OutputTooShort OutputTooShort refl
+    pub table-answered-unique : {a b : Returned} {first second : List ℕ} → TableAnswered rule bytes report a first → TableAnswered rule bytes report b second → Same a b first second
+    table-answered-unique (TableAnswered.not-a-table a x p) (TableAnswered.not-a-table b y q) = refused-alike (returned a x) (returned b y) (let same = one-refusal a b x y p q in cc)
+    table-answered-unique (TableAnswered.not-a-table a x p) (TableAnswered.output-too-short u q r) = not-both u a x q p
+    table-answered-unique (TableAnswered.not-a-table a x p) (TableAnswered.no-core-takes u j q m r) = not-both u a x q p
+    table-answered-unique (TableAnswered.not-a-table a x p) (TableAnswered.accepted u others q m d) = not-both u a x q p
+    table-answered-unique (TableAnswered.output-too-short t p s) (TableAnswered.not-a-table b y q) = not-both t b y p q
+    table-answered-unique (TableAnswered.output-too-short t p s) (TableAnswered.output-too-short u q r) = refused-alike (returned 7 0) (returned 7 0) refl
     table-answered-unique (TableAnswered.output-too-short t p s) (TableAnswered.no-core-takes u j q m r) = short-and-long report t u p q s m
     table-answered-unique (TableAnswered.output-too-short t p s) (TableAnswered.accepted u others q m d) = short-and-long report t u p q s m
-    table-answered-unique (TableAnswered.no-core-takes t i p l s) (TableAnswered.not-a-table b q) = not-both t b p q
+    table-answered-unique (TableAnswered.no-core-takes t i p l s) (TableAnswered.not-a-table b y q) = not-both t b y p q
     table-answered-unique (TableAnswered.no-core-takes t i p l s) (TableAnswered.output-too-short u q r) = short-and-long report u t q p r l
-    table-answered-unique (TableAnswered.no-core-takes t i p l s) (TableAnswered.no-core-takes u j q m r) = refused-alike (NoCoreTakes (suc i)) (NoCoreTakes (suc j)) (ap (λ (x : ℕ). NoCoreTakes (suc x)) (one-stop t u i j p q s r))
+    table-answered-unique (TableAnswered.no-core-takes t i p l s) (TableAnswered.no-core-takes u j q m r) = refused-alike (returned 6 (suc i)) (returned 6 (suc j)) (ap (λ (x : ℕ). returned 6 (suc x)) (one-stop t u i j p q s r))
     table-answered-unique (TableAnswered.no-core-takes t i p l s) (TableAnswered.accepted u others q m d) = not-certified t u i others p q s d
-    table-answered-unique (TableAnswered.accepted t all p l c) (TableAnswered.not-a-table b q) = not-both t b p q
+    table-answered-unique (TableAnswered.accepted t all p l c) (TableAnswered.not-a-table b y q) = not-both t b y p q
     table-answered-unique (TableAnswered.accepted t all p l c) (TableAnswered.output-too-short u q r) = short-and-long report u t q p r l
     table-answered-unique (TableAnswered.accepted t all p l c) (TableAnswered.no-core-takes u j q m r) = not-certified u t j all q p r c
     table-answered-unique (TableAnswered.accepted t all p l c) (TableAnswered.accepted u others q m d) = both-accepted t u all others (one-table t u p q) (one-list t u all others p q c d)
 
   -- what the bench program prints is determined
   pub listed-unique : {text other : List ℕ} → Listed rule bytes text → Listed rule bytes other → text ≡ other
-  listed-unique (Listed.not-a-table a p) (Listed.not-a-table b q) = ap refusal (one-refusal a b p q)
-  listed-unique (Listed.not-a-table a p) (Listed.no-core-takes u j q r) = not-both u a q p
-  listed-unique (Listed.not-a-table a p) (Listed.accepted u others q d) = not-both u a q p
-  listed-unique (Listed.no-core-takes t i p s) (Listed.not-a-table b q) = not-both t b p q
-  listed-unique (Listed.no-core-takes t i p s) (Listed.no-core-takes u j q r) = ap (λ (x : ℕ). refusal (NoCoreTakes (suc x))) (one-stop t u i j p q s r)
+  listed-unique (Listed.not-a-table a x p) (Listed.not-a-table b y q) = let same = one-refusal a b x y p q in cc
+  listed-unique (Listed.not-a-table a x p) (Listed.no-core-takes u j q r) = not-both u a x q p
+  listed-unique (Listed.not-a-table a x p) (Listed.accepted u others q d) = not-both u a x q p
+  listed-unique (Listed.no-core-takes t i p s) (Listed.not-a-table b y q) = not-both t b y p q
+  listed-unique (Listed.no-core-takes t i p s) (Listed.no-core-takes u j q r) = ap (λ (x : ℕ). refusal 6 (suc x)) (one-stop t u i j p q s r)
   listed-unique (Listed.no-core-takes t i p s) (Listed.accepted u others q d) = not-certified t u i others p q s d
-  listed-unique (Listed.accepted t all p c) (Listed.not-a-table b q) = not-both t b p q
+  listed-unique (Listed.accepted t all p c) (Listed.not-a-table b y q) = not-both t b y p q
   listed-unique (Listed.accepted t all p c) (Listed.no-core-takes u j q r) = not-certified u t j all q p r c
   listed-unique (Listed.accepted t all p c) (Listed.accepted u others q d) = ap listing (one-list t u all others p q c d)
 

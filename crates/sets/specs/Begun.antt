@@ -3,9 +3,9 @@ use mathlib.Core.Path.{_≡_}
 use Prim.Native.Nat.{ℕ, suc, _<_}
 use mathlib.Core.List.{List}
 use lib.ListN.{length, take}
-use Rattle.theory.specs.declared.Answer.{Answer}
-use Rattle.theory.specs.declared.Answer.the-variants.{Accepted, RowMisses}
-use Rattle.theory.specs.Answer.{numberOf}
+use Rattle.answers.specs.declared.Answer.{Answer}
+use Rattle.answers.specs.declared.Answer.the-variants.{Accepted, RowMisses}
+use Rattle.answers.specs.Answer.{numberOf}
 use Rattle.theory.specs.Response.{FirstMiss}
 use Rattle.theory.specs.Lists.{rowsOf}
 use Rattle.refusals.specs.Checked.{Checked}

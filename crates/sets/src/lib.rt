@@ -1,16 +1,12 @@
 // The set service and the point service: document 01, one core's rows as three lists of 32-bit numbers, response times and allowances in two lent lists.
 ghost use mathlib.Core.Path.{_≡_};
-ghost use Prim.Native.Nat.{ℕ, _≤_, _<_};
-ghost use lib.IntN.{pos};
-ghost use lib.ListN.{length, getD, take};
-ghost use Rattle.theory.specs.Row.{AllWithin};
-ghost use Rattle.theory.specs.Points.{IsPointAllowance};
-ghost use Rattle.theory.specs.Lists.{Shaped, rowsOf, filled, SetAnswered, PointAnswered};
-ghost use Rattle.climbs.specs.Ranking.{rankingBy};
-ghost use Rattle.responses.specs.Verdict.{RespondsInTime};
+ghost use Prim.Native.Nat.{_≤_};
+ghost use lib.ListN.{length, take};
+ghost use Rattle.theory.specs.Lists.{filled, SetAnswered, PointAnswered};
+ghost use Rattle.answers.specs.Answer.{returnedBy};
 ghost use Rattle.sets.specs.Begun.{IsBegun};
+use answers::Answer;
 use responses::Verdict;
-use theory::Answer;
 
 // Fills the front of a lent list with numbers.
 fn fill(list: &mut [u32], numbers: &[u32])
@@ -53,7 +49,7 @@ fn begin(c: &[u32], d: &[u32], t: &[u32], responses: usize, allowances: usize) -
     ensures { λ r. ⌜ IsBegun (now (c .entry)) (now (d .entry)) (now (t .entry)) responses allowances (r .order) (r .response) (r .answer) ⌝ }
 {
     let checked = refusals::check_lists(c, d, t, responses, allowances);
-    if refusals::number_of(checked) != 0 {
+    if answers::number_of(checked) != 0 {
         return Begun {
             answer: checked,
             order: [0; 24],
@@ -78,24 +74,6 @@ fn begin(c: &[u32], d: &[u32], t: &[u32], responses: usize, allowances: usize) -
     }
 }
 
-// The point allowances of rows that are all on time, which are no negative numbers.
-pub fn point_numbers(
-    c: &[u32],
-    d: &[u32],
-    t: &[u32],
-    order: &[usize; 24],
-    response: &[u32; 24],
-) -> [u32; 24]
-    requires { ⌜ Shaped (now c) (now d) (now t) × AllWithin (rowsOf (now c) (now d) (now t)) ⌝ }
-    requires { ⌜ take (length (now d)) (now order) ≡ rankingBy (now d) ⌝ }
-    requires { ⌜ ((k : ℕ) → k < length (now c) → RespondsInTime (rowsOf (now c) (now d) (now t)) (now response) k) ⌝ }
-    ensures { λ r. ⌜ ((i : ℕ) → i < length (now (c .entry)) → IsPointAllowance (rowsOf (now (c .entry)) (now (d .entry)) (now (t .entry))) i (pos (getD r i 0))) ⌝ }
-    ensures { λ r. ⌜ length r ≡ 24 ⌝ }
-{
-    let signed = points::point_allowances(c, d, t, order);
-    points::as_numbers(&signed[..c.len()])
-}
-
 // The set service: allowances by trial of the definition.
 pub fn set_service(
     c: &[u32],
@@ -104,11 +82,11 @@ pub fn set_service(
     responses: &mut [u32],
     allowances: &mut [u32],
 ) -> Answer
-    ensures { λ r. ⌜ SetAnswered (now (c .entry)) (now (d .entry)) (now (t .entry)) (now (responses .entry)) (now (allowances .entry)) r (now (responses .exit)) (now (allowances .exit)) ⌝ }
+    ensures { λ r. ⌜ SetAnswered (now (c .entry)) (now (d .entry)) (now (t .entry)) (now (responses .entry)) (now (allowances .entry)) (returnedBy r) (now (responses .exit)) (now (allowances .exit)) ⌝ }
 {
     let begun = begin(c, d, t, responses.len(), allowances.len());
     let answer = begun.answer;
-    if refusals::number_of(answer) != 0 {
+    if answers::number_of(answer) != 0 {
         return answer;
     }
     let n = c.len();
@@ -127,17 +105,17 @@ pub fn point_service(
     responses: &mut [u32],
     allowances: &mut [u32],
 ) -> Answer
-    ensures { λ r. ⌜ PointAnswered (now (c .entry)) (now (d .entry)) (now (t .entry)) (now (responses .entry)) (now (allowances .entry)) r (now (responses .exit)) (now (allowances .exit)) ⌝ }
+    ensures { λ r. ⌜ PointAnswered (now (c .entry)) (now (d .entry)) (now (t .entry)) (now (responses .entry)) (now (allowances .entry)) (returnedBy r) (now (responses .exit)) (now (allowances .exit)) ⌝ }
 {
     let begun = begin(c, d, t, responses.len(), allowances.len());
     let answer = begun.answer;
-    if refusals::number_of(answer) != 0 {
+    if answers::number_of(answer) != 0 {
         return answer;
     }
     let n = c.len();
     let order = begun.order;
     let response = begun.response;
-    let allowed = point_numbers(c, d, t, &order, &response);
+    let allowed = points::allowances_by_points(c, d, t, &order);
     deliver(n, &response, &allowed, responses, allowances);
     Answer::Accepted
 }

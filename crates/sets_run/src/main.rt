@@ -1,6 +1,6 @@
 // Runs both list services on the sheets of document 01 that are about one set, on every refusal, and on lists of edge lengths, and prints what they answer.
+use answers::Answer;
 use libc::STDOUT_FILENO;
-use theory::Answer;
 
 fn say(text: &[u8]) {
     io::write_all(STDOUT_FILENO, text);
@@ -23,9 +23,9 @@ fn say_list(list: &[u32]) {
 // An answer's number and row, and the two lists after it.
 fn say_answer(service: &[u8], answer: Answer, responses: &[u32], allowances: &[u32]) {
     say(service);
-    say_number(refusals::number_of(answer));
+    say_number(answers::number_of(answer));
     say(b" row ");
-    say_number(refusals::row_of(answer));
+    say_number(answers::row_of(answer));
     say(b" |");
     say_list(responses);
     say(b" |");

@@ -3,22 +3,22 @@ use mathlib.Core.Path.{_≡_, subst}
 use Prim.Native.Nat.{ℕ, suc, _≤_}
 use mathlib.Core.Bool.{_&&_}
 use mathlib.Core.List.{List}
-use lib.Dec.{T, leb, leb→le, eqb→eq}
+use lib.Dec.{T, leb, eqb, leb→le, eqb→eq}
 use lib.ListN.{length}
-use Rattle.theory.specs.declared.Answer.the-variants.{Accepted, NoCoreTakes}
+use Rattle.theory.specs.Returned.{Returned, returned}
 use Rattle.theory.specs.Lists.{filled}
 use Rattle.theory.proofs.Tests.{and-first, and-second}
 use Rattle.placement.specs.Core.{Table}
 use Rattle.placement.specs.Choice.{allowanceFit}
 use Rattle.placement.specs.Figures.{Figures, Certificate, certified, noCoreTakes, IsCertificate}
-use Rattle.placement.specs.Placing.{certificate}
+use Rattle.placement.specs.Computed.{certificate}
 use Rattle.placement.proofs.Fit.{allowance-fit-is-rule}
 use Rattle.placement.proofs.Computed.{certificate-is}
 use Rattle.records.specs.Reading.{readTable, table, TableWithin}
 use Rattle.records.specs.Report.{tableBytes, reportBytes, reportLength}
 use Rattle.records.proofs.ReadingBack.{table-reads-back}
 use Rattle.service.specs.Table.{TableAnswered, Listed}
-use Rattle.sheets.proofs.Test.{isSet, isTable, textOf, stopsAt}
+use Rattle.sheets.proofs.Test.{isSet, isTable, textOf, refusesWith}
 use Rattle.sheets.proofs.Law.{set-within, set-some, set-no-25th}
 
 module _ (t : Table) (passes : T (isTable t)) where
@@ -51,16 +51,18 @@ module _ (t : Table) (passes : T (isTable t)) where
   pub accepted-holds : (all : List Figures) → certificate allowanceFit t ≡ certified all
       → (report : List ℕ)
       → reportLength (length (t .rows)) ≤ length report
-      → TableAnswered allowanceFit (tableBytes t) report Accepted (filled (reportBytes t all) report)
+      → TableAnswered allowanceFit (tableBytes t) report (returned 0 0) (filled (reportBytes t all) report)
   accepted-holds all e report long = TableAnswered.accepted t all reads long (subst (IsCertificate allowanceFit t) e is-certificate)
 
-  pub no-core-takes-holds : (k : ℕ) → T (stopsAt (certificate allowanceFit t) k)
+  pub refused-holds : (number row : ℕ) → T (refusesWith (certificate allowanceFit t) number row)
       → (report : List ℕ)
       → reportLength (length (t .rows)) ≤ length report
-      → TableAnswered allowanceFit (tableBytes t) report (NoCoreTakes (suc k)) report
-  no-core-takes-holds k stops report long = go (certificate allowanceFit t) is-certificate stops
+      → TableAnswered allowanceFit (tableBytes t) report (returned number row) report
+  refused-holds number row stops report long = go (certificate allowanceFit t) is-certificate stops
     where
-      go : (c : Certificate) → IsCertificate allowanceFit t c → T (stopsAt c k) → TableAnswered allowanceFit (tableBytes t) report (NoCoreTakes (suc k)) report
+      go : (c : Certificate) → IsCertificate allowanceFit t c → T (refusesWith c number row) → TableAnswered allowanceFit (tableBytes t) report (returned number row) report
       go (certified all) is s = absurd s
       go (noCoreTakes i) is s =
-          subst (λ (n : ℕ). TableAnswered allowanceFit (tableBytes t) report (NoCoreTakes (suc n)) report) (eqb→eq i k s) (TableAnswered.no-core-takes t i reads long is)
+          let six = eqb→eq 6 number (and-first (eqb 6 number) (eqb (suc i) row) s) in
+          let its-row = eqb→eq (suc i) row (and-second (eqb 6 number) (eqb (suc i) row) s) in
+          subst (λ (r : Returned). TableAnswered allowanceFit (tableBytes t) report r report) (cc) (TableAnswered.no-core-takes t i reads long is)

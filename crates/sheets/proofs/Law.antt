@@ -6,12 +6,11 @@ use mathlib.Core.Logic.{_⊎_, inl, inr, ⊎-elim}
 use mathlib.Core.List.{List, [], _∷_, map, List·Memᴰ, List·Memᴰ·head, List·Memᴰ·tail}
 use native.Mathlib.Omega.{arith}
 use native.Mathlib.Nat.{zero-add}
-use lib.Dec.{T, leb, eqb, leb→le, eqb→eq, T-not}
+use lib.Dec.{T, leb, ltb, eqb, leb→le, ltb→lt, eqb→eq, T-not}
 use lib.IntN.{ℤ}
 use lib.ListN.{length, length-map}
 use lib.Signed.{leZ}
-use Rattle.theory.specs.declared.Answer.{Answer}
-use Rattle.theory.specs.declared.Answer.the-variants.{Accepted, RowMisses}
+use Rattle.theory.specs.Returned.{Returned, returned}
 use Rattle.theory.specs.Row.{Row, rowAt, withinLimits, AllWithin}
 use Rattle.theory.specs.Gather.{every}
 use Rattle.theory.specs.Rank.{places, above}
@@ -29,11 +28,11 @@ use Rattle.theory.proofs.Signed.{≤ℤ-antisymm}
 use Rattle.theory.proofs.Allowance.{allowance-is}
 use Rattle.theory.proofs.CoreAllowance.{on-time-meets}
 use Rattle.theory.proofs.Lists.{services-agree}
-use Rattle.placement.specs.Placing.{responseOf}
+use Rattle.placement.specs.Computed.{responseOf}
 use Rattle.placement.proofs.Computed.{response-of-is}
 use Rattle.sheets.specs.Sheets.{executions, deadlines, periods, BothAnswer}
 use Rattle.sheets.proofs.Columns.{rows-of-columns}
-use Rattle.sheets.proofs.Test.{sameList, sameSigned, oneOf, isSet}
+use Rattle.sheets.proofs.Test.{sameList, sameSigned, oneOf, isSet, missesFirst}
 
 -- ---- the parts of the tests
 
@@ -99,14 +98,14 @@ module _ (rows : List Row) (t : T (isSet rows)) where
   carried P p = subst P (sym (rows-of-columns rows)) p
 
   -- where one service gives an answer on long enough lists, both do
-  both-answer : (answer : Answer) (first second : List ℕ → List ℕ)
+  both-answer : (returns : Returned) (first second : List ℕ → List ℕ)
       → ((responses allowances : List ℕ)
       → length (executions rows) ≤ length responses
       → length (executions rows) ≤ length allowances
-      → SetAnswered (executions rows) (deadlines rows) (periods rows) responses allowances answer (first responses) (second allowances))
-      → BothAnswer rows answer first second
-  both-answer answer first second set responses allowances r a =
-      let s : SetAnswered (executions rows) (deadlines rows) (periods rows) responses allowances answer (first responses) (second allowances) =
+      → SetAnswered (executions rows) (deadlines rows) (periods rows) responses allowances returns (first responses) (second allowances))
+      → BothAnswer rows returns first second
+  both-answer returns first second set responses allowances r a =
+      let s : SetAnswered (executions rows) (deadlines rows) (periods rows) responses allowances returns (first responses) (second allowances) =
       set responses allowances (omega (arith, length-map rows (λ (row : Row). row .C))) (omega (arith, length-map rows (λ (row : Row). row .C))) in
       (s, services-agree (executions rows) (deadlines rows) (periods rows) responses allowances .0 s)
 
@@ -124,9 +123,9 @@ module _ (rows : List Row) (t : T (isSet rows)) where
       → T (onTime rows)
       → map responding (places rows) ≡ responses
       → map (allowance rows) (places rows) ≡ allowances
-      → BothAnswer rows Accepted (filled responses) (filled allowances)
+      → BothAnswer rows (returned 0 0) (filled responses) (filled allowances)
   accepted-holds responses allowances on-time e f =
-      both-answer Accepted (filled responses) (filled allowances)
+      both-answer (returned 0 0) (filled responses) (filled allowances)
       (λ rs ls r a.
       accepted responses allowances set-shaped (carried AllWithin set-within) r a (carried AllMeet all)
       (carried (λ rows. ForEach rows (IsResponse rows) responses) (subst (ForEach rows (IsResponse rows)) e (computed-for-each responding (IsResponse rows) (λ k h. response-of-is rows k (outcome rows k) (outcome-right rows k (set-within k h .runs)) (all k h)))))
@@ -145,22 +144,33 @@ module _ (rows : List Row) (t : T (isSet rows)) where
   late-misses k misses is l m = is m
 
   pub misses-holds : (k : ℕ)
-      → k < length rows
-      → T (not (inTime (outcome rows k)))
-      → T (every (λ h. not (above rows h k) || inTime (outcome rows h)) (places rows))
-      → BothAnswer rows (RowMisses (suc k)) (λ before. before) (λ before. before)
-  misses-holds k inside late above-in-time =
-      both-answer (RowMisses (suc k)) (λ before. before) (λ before. before)
+      → T (missesFirst rows k)
+      → BothAnswer rows (returned 8 (suc k)) (λ before. before) (λ before. before)
+  unfolding missesFirst
+  misses-holds k misses-first =
+      both-answer (returned 8 (suc k)) (λ before. before) (λ before. before)
       (λ rs ls r a. row-misses k set-shaped (carried AllWithin set-within) r a (carried (λ rows. FirstMiss rows k) first))
     where
+      late : Bool
+      late = not (inTime (outcome rows k))
+
+      above-in-time : Bool
+      above-in-time = every (λ h. not (above rows h k) || inTime (outcome rows h)) (places rows)
+
+      inside : k < length rows
+      inside = ltb→lt k (length rows) (and-first (ltb k (length rows)) (late && above-in-time) misses-first)
+
+      tests : T (late && above-in-time)
+      tests = and-second (ltb k (length rows)) (late && above-in-time) misses-first
+
       first : FirstMiss rows k
       first = record {
         in-set = inside;
-        misses = late-misses k (outcome rows k) (outcome-right rows k (set-within k inside .runs)) late;
+        misses = late-misses k (outcome rows k) (outcome-right rows k (set-within k inside .runs)) (and-first late above-in-time tests);
         above-meet = λ h in-set ranks.
             in-time-meets h (outcome rows h) (outcome-right rows h (set-within h in-set .runs))
             (⊎-elim
             (λ n. absurd (T-not (above rows h k) n ranks))
             (λ i. i)
-            (or-cases (not (above rows h k)) (inTime (outcome rows h)) (each-place (λ x. not (above rows x k) || inTime (outcome rows x)) rows above-in-time h in-set)));
+            (or-cases (not (above rows h k)) (inTime (outcome rows h)) (each-place (λ x. not (above rows x k) || inTime (outcome rows x)) rows (and-second late above-in-time tests) h in-set)));
       }

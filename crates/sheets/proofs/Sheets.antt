@@ -1,11 +1,12 @@
 -- THE SHEETS HOLD: one computed test over the whole list, and one law that turns the test into what each sheet says.
 use mathlib.Core.Path.{_≡_, subst, sym}
-use Prim.Native.Nat.{_%_}
+use Prim.Native.Nat.{suc, _-_, _%_}
 use mathlib.Core.Bool.{_&&_, _||_, not}
 use mathlib.Core.Logic.{_⊎_, inl, inr}
 use mathlib.Core.List.{List, [], _∷_, map, List·Memᴰ, List·Memᴰ·cases-cons}
 use lib.Dec.{T, ltb, eqb, ltb→lt, eqb→eq}
 use lib.ListN.{length}
+use Rattle.theory.specs.Returned.{Returned}
 use Rattle.theory.specs.Row.{rowAt}
 use Rattle.theory.specs.Gather.{upFrom, keep, sum, every, insert, sort, best}
 use Rattle.theory.specs.Rank.{places, above, rivals, levels}
@@ -19,12 +20,12 @@ use Rattle.theory.proofs.Bound.{bound-is}
 use Rattle.placement.specs.Core.{coreRows, placeOnCore}
 use Rattle.placement.specs.Order.{taken}
 use Rattle.placement.specs.Choice.{allowanceFit}
-use Rattle.placement.specs.Placing.{takes, candidateAt, takers, chosenOf, stepOf, run, figuresOf, certificateOf, certificate, responseOf}
+use Rattle.placement.specs.Computed.{takes, candidateAt, takers, chosenOf, stepOf, run, figuresOf, certificateOf, certificate, responseOf}
 use Rattle.listing.specs.Listing.{ascii, headerLine, digitsBefore, decimal, rowLine, rowLines, smallestAllowance, systemAllowance, listing, refusal}
-use Rattle.sheets.specs.Sheets.{Sheet, set-accepted, set-misses, below-one, walk-yields, points-as-set, bound-on, slack-at, quotient-at, order-taken, listed, no-core-takes, Holds, sheets}
-use Rattle.sheets.proofs.Test.{sameList, oneOf, isSet, isTable, textOf, stopsAt, passes, allPass}
+use Rattle.sheets.specs.Sheets.{Sheet, set-accepted, set-refused, below-one, walk-yields, points-as-set, bound-on, slack-at, quotient-at, order-taken, listed, table-refused, BothAnswer, Holds, sheets}
+use Rattle.sheets.proofs.Test.{sameList, oneOf, isSet, isTable, textOf, refusesWith, missesFirst, passes, allPass}
 use Rattle.sheets.proofs.Law.{same-list, same-signed, one-of, each-place, accepted-holds, misses-holds}
-use Rattle.sheets.proofs.Certificate.{listed-holds, no-core-takes-holds}
+use Rattle.sheets.proofs.Certificate.{listed-holds, refused-holds}
 
 -- THE LAW
 pub sheet-holds : (sheet : Sheet) → T (passes sheet) → Holds sheet
@@ -38,15 +39,15 @@ sheet-holds (set-accepted rows responses allowances) t =
     (and-first (onTime rows) (same-responses && same-allowances) after)
     (same-list _ _ (and-first same-responses same-allowances figures))
     (same-list _ _ (and-second same-responses same-allowances figures))
-sheet-holds (set-misses rows k) t =
-    let late = not (inTime (outcome rows k)) in
-    let above-meet = every (λ h. not (above rows h k) || inTime (outcome rows h)) (places rows) in
-    let after : T (ltb k (length rows) && (late && above-meet)) = and-second (isSet rows) (ltb k (length rows) && (late && above-meet)) t in
-    let tests : T (late && above-meet) = and-second (ltb k (length rows)) (late && above-meet) after in
-    misses-holds rows (and-first (isSet rows) (ltb k (length rows) && (late && above-meet)) t) k
-    (ltb→lt k (length rows) (and-first (ltb k (length rows)) (late && above-meet) after))
-    (and-first late above-meet tests)
-    (and-second late above-meet tests)
+sheet-holds (set-refused rows number row) t =
+    let numbers = eqb 8 number && eqb (suc (row - 1)) row in
+    let misses = missesFirst rows (row - 1) in
+    let after : T (numbers && misses) = and-second (isSet rows) (numbers && misses) t in
+    let right : T numbers = and-first numbers misses after in
+    let eight : 8 ≡ number = eqb→eq 8 number (and-first (eqb 8 number) (eqb (suc (row - 1)) row) right) in
+    let its-row : suc (row - 1) ≡ row = eqb→eq (suc (row - 1)) row (and-second (eqb 8 number) (eqb (suc (row - 1)) row) right) in
+    subst (λ (r : Returned). BothAnswer rows r (λ before. before) (λ before. before)) (cc)
+    (misses-holds rows (and-first (isSet rows) (numbers && misses) t) (row - 1) (and-second numbers misses after))
 sheet-holds (below-one rows P) t =
     let common = every (λ k. eqb (P % rowAt rows k .T) 0) (places rows) in (
       λ k h. eqb→eq (P % rowAt rows k .T) 0 (each-place (λ x. eqb (P % rowAt rows x .T) 0) rows (and-first common (ltb (work rows P) P) t) k h),
@@ -64,9 +65,9 @@ sheet-holds (order-taken rows order) t = same-list (taken rows) order t
 sheet-holds (listed table text) t =
     let same = sameList (textOf (certificate allowanceFit table)) text in
     listed-holds table (and-first (isTable table) same t) text (same-list (textOf (certificate allowanceFit table)) text (and-second (isTable table) same t))
-sheet-holds (no-core-takes table k) t =
-    let stops = stopsAt (certificate allowanceFit table) k in
-    no-core-takes-holds table (and-first (isTable table) stops t) k (and-second (isTable table) stops t)
+sheet-holds (table-refused table number row) t =
+    let refuses = refusesWith (certificate allowanceFit table) number row in
+    refused-holds table (and-first (isTable table) refuses t) number row (and-second (isTable table) refuses t)
 
 each-holds : (some : List Sheet) → T (allPass some) → (sheet : Sheet) → List·Memᴰ sheet some → Holds sheet
 unfolding allPass
@@ -79,7 +80,7 @@ each-holds (first ∷ others) t sheet m = go (each-holds others (and-second (pas
 
 -- the test, computed over the whole list
 all-pass : T (allPass sheets)
-unfolding sheets allPass passes sameList oneOf isSet isTable upFrom keep sum every insert sort best rivals levels ceil demand load climb outcome onTime lastMultiple walk points slack floorDiv times quotient bound pointAllowance allowance coreAllowance work coreRows placeOnCore taken takes candidateAt takers chosenOf stepOf run figuresOf certificateOf certificate ascii headerLine digitsBefore decimal rowLine rowLines smallestAllowance systemAllowance listing refusal
+unfolding sheets allPass passes sameList oneOf isSet isTable missesFirst upFrom keep sum every insert sort best rivals levels ceil demand load climb outcome onTime lastMultiple walk points slack floorDiv times quotient bound pointAllowance allowance coreAllowance work coreRows placeOnCore taken takes candidateAt takers chosenOf stepOf run figuresOf certificateOf certificate ascii headerLine digitsBefore decimal rowLine rowLines smallestAllowance systemAllowance listing refusal
 all-pass = tt
 
 -- EVERY SHEET HOLDS

@@ -7,8 +7,7 @@ use mathlib.Core.List.{List, [], _∷_, map, flatMap}
 use native.Mathlib.Omega.{arith}
 use lib.Dec.{T, leb, eqb, T-not, eqb-refl}
 use lib.ListN.{length, getD, take, drop, replicate, length-replicate}
-use Rattle.theory.specs.declared.Answer.{Answer}
-use Rattle.theory.specs.declared.Answer.the-variants.{Accepted}
+use Rattle.theory.specs.Returned.{Returned, returned}
 use Rattle.theory.specs.Row.{Row, rowAt}
 use Rattle.theory.specs.Gather.{lessOrTied, upFrom, keep, sum, every, insert, sort, best}
 use Rattle.theory.specs.Rank.{places, rivals, levels}
@@ -19,7 +18,7 @@ use Rattle.placement.specs.Core.{Table, coreRows, coreOf, placeOnCore}
 use Rattle.placement.specs.Order.{taken}
 use Rattle.placement.specs.Choice.{Rule, allowanceFit}
 use Rattle.placement.specs.Figures.{Figures, certified}
-use Rattle.placement.specs.Placing.{takes, candidateAt, takers, chosenOf, stepOf, Run, placed, run, figuresOf, certificateOf, certificate}
+use Rattle.placement.specs.Computed.{takes, candidateAt, takers, chosenOf, stepOf, Run, placed, run, figuresOf, certificateOf, certificate}
 use Rattle.placement.proofs.Fit.{allowance-fit-is-rule}
 use Rattle.records.specs.Number.{bigEndianFrom, numberAt, fourBytes}
 use Rattle.records.specs.Reading.{TableWithin, rowIn}
@@ -105,23 +104,23 @@ abbrev lent : Table → List ℕ
 lent t = replicate (reportLength (length (t .rows))) 0
 
 -- a version of the table service that keeps its promise on all bytes and all lent reports
-module _ (answer : List ℕ → List ℕ → Answer) (report-after : List ℕ → List ℕ → List ℕ)
+module _ (answer : List ℕ → List ℕ → Returned) (report-after : List ℕ → List ℕ → List ℕ)
     (keeps : (bytes report : List ℕ) → TableAnswered allowanceFit bytes report (answer bytes report) (report-after bytes report)) where
   -- it accepts a table, and what it writes then
   abbrev Accepts : Table → List ℕ → Type 0
-  Accepts t report = answer (tableBytes t) report ≡ Accepted
+  Accepts t report = answer (tableBytes t) report ≡ returned 0 0
 
   abbrev written : Table → List ℕ → List ℕ
   written t report = report-after (tableBytes t) report
 
   -- WHERE THE CERTIFICATE IS KNOWN, SO IS EVERY BYTE OF THE REPORT
   on-table : {t : Table} {all : List Figures} → Known t all → (report : List ℕ) → reportLength (length (t .rows)) ≤ length report
-      → Same (answer (tableBytes t) report) Accepted (written t report) (filled (reportBytes t all) report)
+      → Same (answer (tableBytes t) report) (returned 0 0) (written t report) (filled (reportBytes t all) report)
   on-table {t} {all} of-table report long =
       table-answered-unique allowanceFit allowance-fit-is-rule (tableBytes t) report (keeps (tableBytes t) report) (accepted-holds t (of-table .is-table) all (of-table .computed) report long)
 
   -- so with zeros lent
-  on-zeros : {t : Table} {all : List Figures} → Known t all → Same (answer (tableBytes t) (lent t)) Accepted (written t (lent t)) (filled (reportBytes t all) (lent t))
+  on-zeros : {t : Table} {all : List Figures} → Known t all → Same (answer (tableBytes t) (lent t)) (returned 0 0) (written t (lent t)) (filled (reportBytes t all) (lent t))
   on-zeros {t} of-table = on-table of-table (lent t) (omega (arith, length-replicate {A = ℕ} (reportLength (length (t .rows))) 0))
 
   -- a version that writes another number than the one that stands in the known report

@@ -1,12 +1,11 @@
 -- One test that computes, for every kind of sheet.
-use Prim.Native.Nat.{ℕ, suc, _%_}
+use Prim.Native.Nat.{ℕ, suc, _-_, _%_}
 use mathlib.Core.Bool.{Bool, true, false, _&&_, _||_, not}
 use mathlib.Core.List.{List, [], _∷_, map}
 use lib.Dec.{leb, ltb, eqb}
 use lib.IntN.{ℤ}
 use lib.ListN.{length}
 use lib.Signed.{leZ}
-use Rattle.theory.specs.declared.Answer.the-variants.{NoCoreTakes}
 use Rattle.theory.specs.Row.{Row, rowAt, withinLimits}
 use Rattle.theory.specs.Gather.{every}
 use Rattle.theory.specs.Rank.{places, above}
@@ -17,9 +16,9 @@ use Rattle.placement.specs.Core.{Table}
 use Rattle.placement.specs.Order.{taken}
 use Rattle.placement.specs.Choice.{allowanceFit}
 use Rattle.placement.specs.Figures.{Certificate, certified, noCoreTakes}
-use Rattle.placement.specs.Placing.{responseOf, certificate}
+use Rattle.placement.specs.Computed.{responseOf, certificate}
 use Rattle.listing.specs.Listing.{listing, refusal}
-use Rattle.sheets.specs.Sheets.{Sheet, set-accepted, set-misses, below-one, walk-yields, points-as-set, bound-on, slack-at, quotient-at, order-taken, listed, no-core-takes}
+use Rattle.sheets.specs.Sheets.{Sheet, set-accepted, set-refused, below-one, walk-yields, points-as-set, bound-on, slack-at, quotient-at, order-taken, listed, table-refused}
 
 -- whether two lists are the same
 unfoldable pub sameList : List ℕ → List ℕ → Bool
@@ -48,19 +47,22 @@ isTable table = (leb 1 (table .cores) && leb (table .cores) 8) && isSet (table .
 -- the listing's text for a certificate
 abbrev pub textOf : Certificate → List ℕ
 textOf (certified all) = listing all
-textOf (noCoreTakes i) = refusal (NoCoreTakes (suc i))
+textOf (noCoreTakes i) = refusal 6 (suc i)
 
--- whether a certificate stops at a row
-abbrev pub stopsAt : Certificate → ℕ → Bool
-stopsAt (certified all) k = false
-stopsAt (noCoreTakes i) k = eqb i k
+-- whether a certificate is the refusal with a number and a row
+abbrev pub refusesWith : Certificate → ℕ → ℕ → Bool
+refusesWith (certified all) number row = false
+refusesWith (noCoreTakes i) number row = eqb 6 number && eqb (suc i) row
+
+-- whether the row at a place is the first in rank that misses
+unfoldable pub missesFirst : List Row → ℕ → Bool
+missesFirst rows k = ltb k (length rows) && (not (inTime (outcome rows k)) && every (λ h. not (above rows h k) || inTime (outcome rows h)) (places rows))
 
 -- THE TEST of a sheet
 unfoldable pub passes : Sheet → Bool
 passes (set-accepted rows responses allowances) =
     isSet rows && (onTime rows && (sameList (map (λ k. responseOf (outcome rows k)) (places rows)) responses && sameList (map (allowance rows) (places rows)) allowances))
-passes (set-misses rows k) =
-    isSet rows && (ltb k (length rows) && (not (inTime (outcome rows k)) && every (λ h. not (above rows h k) || inTime (outcome rows h)) (places rows)))
+passes (set-refused rows number row) = isSet rows && ((eqb 8 number && eqb (suc (row - 1)) row) && missesFirst rows (row - 1))
 passes (below-one rows P) = every (λ k. eqb (P % rowAt rows k .T) 0) (places rows) && ltb (work rows P) P
 passes (walk-yields rows k times) = sameList (points rows k) times
 passes (points-as-set rows k times) = every (oneOf times) (points rows k) && every (oneOf (points rows k)) times
@@ -69,7 +71,7 @@ passes (slack-at rows k t z) = sameSigned (slack rows k t) z
 passes (quotient-at rows k i t z) = sameSigned (quotient rows k i t) z
 passes (order-taken rows order) = sameList (taken rows) order
 passes (listed table text) = isTable table && sameList (textOf (certificate allowanceFit table)) text
-passes (no-core-takes table k) = isTable table && stopsAt (certificate allowanceFit table) k
+passes (table-refused table number row) = isTable table && refusesWith (certificate allowanceFit table) number row
 
 -- whether every sheet of a list passes
 unfoldable pub allPass : List Sheet → Bool

@@ -1,12 +1,11 @@
 -- Sheets 1 to 10 of document 01, as one list, and what each entry says.
 use mathlib.Core.Path.{_≡_}
-use Prim.Native.Nat.{ℕ, suc, _≤_, _<_}
+use Prim.Native.Nat.{ℕ, _≤_, _<_}
 use mathlib.Core.Logic.{_↔_}
 use mathlib.Core.List.{List, [], _∷_, _++_, map, List·Memᴰ}
 use lib.IntN.{ℤ, pos, negsuc}
 use lib.ListN.{length}
-use Rattle.theory.specs.declared.Answer.{Answer}
-use Rattle.theory.specs.declared.Answer.the-variants.{Accepted, NoCoreTakes, RowMisses}
+use Rattle.theory.specs.Returned.{Returned, returned}
 use Rattle.theory.specs.Row.{Row}
 use Rattle.theory.specs.Points.{points, slack, quotient, IsBound}
 use Rattle.theory.specs.Utilisation.{CommonMultiple, work}
@@ -18,10 +17,10 @@ use Rattle.records.specs.Report.{tableBytes, reportLength}
 use Rattle.listing.specs.Listing.{ascii}
 use Rattle.service.specs.Table.{TableAnswered, Listed}
 
--- what a sheet says, with rows by their places, which count from 0: place 1 is row 2
+-- what a sheet says. Rows go by their places, which count from 0: place 1 is row 2. A refusal is its number and its row, which counts from 1
 pub data Sheet : Type 0 where
   set-accepted : List Row → List ℕ → List ℕ → Sheet
-  set-misses : List Row → ℕ → Sheet
+  set-refused : List Row → ℕ → ℕ → Sheet
   below-one : List Row → ℕ → Sheet
   walk-yields : List Row → ℕ → List ℕ → Sheet
   points-as-set : List Row → ℕ → List ℕ → Sheet
@@ -30,7 +29,7 @@ pub data Sheet : Type 0 where
   quotient-at : List Row → ℕ → ℕ → ℕ → ℤ → Sheet
   order-taken : List Row → List ℕ → Sheet
   listed : Table → List ℕ → Sheet
-  no-core-takes : Table → ℕ → Sheet
+  table-refused : Table → ℕ → ℕ → Sheet
 
 -- the three lists that a set's rows are
 abbrev pub executions : List Row → List ℕ
@@ -42,19 +41,19 @@ deadlines rows = map (λ row. row .D) rows
 abbrev pub periods : List Row → List ℕ
 periods rows = map (λ row. row .T) rows
 
--- both list services give an answer on the rows, and leave the lists with given content, whatever two long enough lists are lent
-abbrev pub BothAnswer : List Row → Answer → (List ℕ → List ℕ) → (List ℕ → List ℕ) → Type 0
-BothAnswer rows answer first second =
+-- both list services return the same on the rows, and leave the lists with given content, whatever two long enough lists are lent
+abbrev pub BothAnswer : List Row → Returned → (List ℕ → List ℕ) → (List ℕ → List ℕ) → Type 0
+BothAnswer rows returns first second =
     (responses allowances : List ℕ)
     → length rows ≤ length responses
     → length rows ≤ length allowances
-    → SetAnswered (executions rows) (deadlines rows) (periods rows) responses allowances answer (first responses) (second allowances)
-    × PointAnswered (executions rows) (deadlines rows) (periods rows) responses allowances answer (first responses) (second allowances)
+    → SetAnswered (executions rows) (deadlines rows) (periods rows) responses allowances returns (first responses) (second allowances)
+    × PointAnswered (executions rows) (deadlines rows) (periods rows) responses allowances returns (first responses) (second allowances)
 
 -- THE STATEMENT about a sheet
 abbrev pub Holds : Sheet → Type 0
-Holds (set-accepted rows responses allowances) = BothAnswer rows Accepted (filled responses) (filled allowances)
-Holds (set-misses rows k) = BothAnswer rows (RowMisses (suc k)) (λ before. before) (λ before. before)
+Holds (set-accepted rows responses allowances) = BothAnswer rows (returned 0 0) (filled responses) (filled allowances)
+Holds (set-refused rows number row) = BothAnswer rows (returned number row) (λ before. before) (λ before. before)
 Holds (below-one rows P) = CommonMultiple rows P × (work rows P < P)
 Holds (walk-yields rows k times) = points rows k ≡ times
 Holds (points-as-set rows k times) = (p : ℕ) → List·Memᴰ p (points rows k) ↔ List·Memᴰ p times
@@ -63,8 +62,8 @@ Holds (slack-at rows k t z) = slack rows k t ≡ z
 Holds (quotient-at rows k i t z) = quotient rows k i t ≡ z
 Holds (order-taken rows order) = taken rows ≡ order
 Holds (listed table text) = Listed allowanceFit (tableBytes table) text
-Holds (no-core-takes table k) =
-    (report : List ℕ) → reportLength (length (table .rows)) ≤ length report → TableAnswered allowanceFit (tableBytes table) report (NoCoreTakes (suc k)) report
+Holds (table-refused table number row) =
+    (report : List ℕ) → reportLength (length (table .rows)) ≤ length report → TableAnswered allowanceFit (tableBytes table) report (returned number row) report
 
 -- a row, written C/D/T in the document
 unfoldable pub row : ℕ → ℕ → ℕ → Row
@@ -99,7 +98,7 @@ sheets =
     ∷ order-taken theFour (1 ∷ 0 ∷ 2 ∷ 3 ∷ [])
     ∷ listed (record { cores = 2; rows = theFour }) listingOfTheFour
     -- 4
-    ∷ no-core-takes (record { cores = 2; rows = row 6 10 10 ∷ row 4 10 10 ∷ row 4 10 10 ∷ row 3 10 10 ∷ row 3 10 10 ∷ [] }) 4
+    ∷ table-refused (record { cores = 2; rows = row 6 10 10 ∷ row 4 10 10 ∷ row 4 10 10 ∷ row 3 10 10 ∷ row 3 10 10 ∷ [] }) 6 5
     -- 4: although the rows would fit otherwise
     ∷ set-accepted (row 6 10 10 ∷ row 4 10 10 ∷ []) (6 ∷ 10 ∷ []) (0 ∷ 0 ∷ [])
     ∷ set-accepted (row 4 10 10 ∷ row 3 10 10 ∷ row 3 10 10 ∷ []) (4 ∷ 7 ∷ 10 ∷ []) (0 ∷ 0 ∷ 0 ∷ [])
@@ -110,12 +109,12 @@ sheets =
     -- 7
     ∷ set-accepted (row 5 10 10 ∷ row 5 10 10 ∷ []) (5 ∷ 10 ∷ []) (0 ∷ 0 ∷ [])
     -- 8
-    ∷ set-misses (row 5 10 10 ∷ row 6 14 14 ∷ []) 1
+    ∷ set-refused (row 5 10 10 ∷ row 6 14 14 ∷ []) 8 2
     ∷ below-one (row 5 10 10 ∷ row 6 14 14 ∷ []) 70
     -- 9
     ∷ set-accepted (row 5 10 10 ∷ row 10 20 20 ∷ []) (5 ∷ 20 ∷ []) (0 ∷ 0 ∷ [])
     -- 10
-    ∷ set-misses (row 5 10 10 ∷ row 11 20 20 ∷ []) 1
+    ∷ set-refused (row 5 10 10 ∷ row 11 20 20 ∷ []) 8 2
     ∷ slack-at (row 5 10 10 ∷ row 11 20 20 ∷ []) 1 20 (negsuc 0)
     ∷ quotient-at (row 5 10 10 ∷ row 11 20 20 ∷ []) 1 0 20 (negsuc 0)
     ∷ []

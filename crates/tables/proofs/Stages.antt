@@ -5,8 +5,8 @@ use mathlib.Core.List.{List}
 use native.Mathlib.Omega.{arith}
 use lib.ListN.{length, take}
 use lib.Seq.{length-take-le}
-use Rattle.theory.specs.declared.Answer.{Answer}
-use Rattle.theory.specs.Answer.{numberOf}
+use Rattle.answers.specs.declared.Answer.{Answer}
+use Rattle.answers.specs.Answer.{numberOf}
 use Rattle.theory.specs.Lists.{Shaped}
 use Rattle.placement.specs.Choice.{allowanceFit}
 use Rattle.placement.specs.Figures.{Certified}

@@ -6,9 +6,9 @@ ghost use Rattle.records.specs.Reading.{TableWithin};
 ghost use Rattle.reading.specs.Held.{Held, heldTable};
 ghost use Rattle.certificates.specs.Held.{IsHeld};
 ghost use Rattle.service.specs.Table.{TableAnswered, Listed, ListingAnswered};
+use answers::Answer;
 use certificates::Certificate;
 use reading::Read;
-use theory::Answer;
 
 // The certificate of the table that was read.
 fn certificate_of(read: Read) -> Certificate
@@ -28,7 +28,7 @@ pub fn table_service(table: &[u8], report: &mut [u8]) -> Answer
 {
     let read = reading::read_table(table);
     let answer = read.answer;
-    if refusals::number_of(answer) != 0 {
+    if answers::number_of(answer) != 0 {
         return answer;
     }
     let n = read.n;
@@ -37,7 +37,7 @@ pub fn table_service(table: &[u8], report: &mut [u8]) -> Answer
     }
     let certificate = certificate_of(read);
     let outcome = certificate.answer;
-    if refusals::number_of(outcome) != 0 {
+    if answers::number_of(outcome) != 0 {
         return outcome;
     }
     let core = certificate.core;
@@ -61,13 +61,13 @@ fn write_lines(table: &[u8], text: &mut [u8]) -> usize
 {
     let read = reading::read_table(table);
     let answer = read.answer;
-    if refusals::number_of(answer) != 0 {
+    if answers::number_of(answer) != 0 {
         return lines::write_refusal(text, answer);
     }
     let n = read.n;
     let certificate = certificate_of(read);
     let outcome = certificate.answer;
-    if refusals::number_of(outcome) != 0 {
+    if answers::number_of(outcome) != 0 {
         return lines::write_refusal(text, outcome);
     }
     let core = certificate.core;

@@ -7,9 +7,9 @@
 ghost use Prim.Native.Nat.{_≤_, _*_};
 ghost use mathlib.Core.Path.{_≡_};
 ghost use lib.ListN.{length};
+use answers::Answer;
 use libc::STDIN_FILENO;
 use libc::STDOUT_FILENO;
-use theory::Answer;
 
 fn say(text: &[u8]) {
     io::write_all(STDOUT_FILENO, text);
@@ -34,9 +34,9 @@ fn say_bytes(bytes: &[u8]) {
 
 // An answer's number and row, and the report after it.
 fn say_answer(answer: Answer, report: &[u8]) {
-    say_number(refusals::number_of(answer));
+    say_number(answers::number_of(answer));
     say(b" ");
-    say_number(refusals::row_of(answer));
+    say_number(answers::row_of(answer));
     if report.len() != 0 {
         say(b" ");
     }

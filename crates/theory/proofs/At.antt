@@ -5,8 +5,8 @@ use mathlib.Core.Logic.{_⊎_, inl, inr}
 use mathlib.Core.List.{List, [], _∷_, List·Memᴰ, List·Memᴰ·head, List·Memᴰ·tail}
 use native.Mathlib.Omega.{arith}
 use lib.ListN.{length, getD}
+use Rattle.theory.specs.Gather.{All}
 use Rattle.theory.proofs.Tests.{order-cases}
-use Rattle.theory.proofs.Each.{All}
 use Rattle.theory.proofs.Member.{all-at, mem-getD}
 use Rattle.theory.proofs.Order.{Ordered}
 

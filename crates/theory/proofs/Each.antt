@@ -5,13 +5,8 @@ use native.Mathlib.Omega.{arith}
 use mathlib.Core.Bool.{Bool, true, false}
 use mathlib.Core.List.{List, [], _∷_, _++_}
 use lib.Dec.{T}
-use Rattle.theory.specs.Gather.{upFrom, keep, every, insert, sort}
+use Rattle.theory.specs.Gather.{upFrom, keep, every, All, insert, sort}
 use Rattle.theory.proofs.Tests.{and-both, and-first, and-second}
-
--- P holds of each of a list
-abbrev pub All : (ℕ → Type 0) → List ℕ → Type 0
-All P [] = Unit {0}
-All P (x ∷ xs) = P x × All P xs
 
 -- a statement on `keep` at the head of a list, by the two cases of its test
 pub keep-cases :

@@ -10,8 +10,8 @@ use native.Mathlib.Numerals.{add-one}
 use lib.Dec.{T}
 use lib.ListN.{length, getD, take}
 use lib.Seq.{take-suc}
-use Rattle.theory.specs.Gather.{keep, insert, sort}
-use Rattle.theory.proofs.Each.{All, keep-cases, insert-cases, true-of, T-true, all-map, all-keep}
+use Rattle.theory.specs.Gather.{keep, insert, sort, All}
+use Rattle.theory.proofs.Each.{keep-cases, insert-cases, true-of, T-true, all-map, all-keep}
 use Rattle.theory.proofs.Order.{Ordered, sort-ordered}
 use Rattle.theory.proofs.InPlace.{insert-before, insert-behind}
 

@@ -11,8 +11,7 @@ use lib.Dec.{leb}
 use lib.IntN.{pos, natAbs}
 use lib.ListN.{length, getD}
 use lib.Seq.{ext-getD}
-use Rattle.theory.specs.declared.Answer.{Answer}
-use Rattle.theory.specs.declared.Answer.the-variants.{Accepted, RowsOutOfRange, RowBreaksLimits, OutputTooShort, RowMisses}
+use Rattle.theory.specs.Returned.{Returned, returned}
 use Rattle.theory.specs.Row.{Row, AllWithin, FirstBroken}
 use Rattle.theory.specs.Response.{AllMeet, FirstMiss, IsResponse}
 use Rattle.theory.specs.Allowance.{IsAllowance}
@@ -57,18 +56,18 @@ for-each-unique rows Right unique xs ys p q =
     unique k (getD xs k 0) (getD ys k 0) inside (p .right k inside) (q .right k inside))
 
 -- two results of a list service that are the same
-pub record Same (answer other : Answer) (responses others allowances other-allowances : List ℕ) : Type 0 where
+pub record Same (answer other : Returned) (responses others allowances other-allowances : List ℕ) : Type 0 where
   pub same-answer : answer ≡ other
   pub same-responses : responses ≡ others
   pub same-allowances : allowances ≡ other-allowances
 
-refused-alike : (answer other : Answer) (rs ls : List ℕ) → answer ≡ other → Same answer other rs rs ls ls
+refused-alike : (answer other : Returned) (rs ls : List ℕ) → answer ≡ other → Same answer other rs rs ls ls
 refused-alike answer other rs ls e = record { same-answer = e; same-responses = refl; same-allowances = refl }
 
 module _ (Allowance : List Row → ℕ → ℕ → Type 0)
     (allowance-determined : (rows : List Row) (i a b : ℕ) → Allowance rows i a → Allowance rows i b → a ≡ b)
     (cs ds ts responses allowances : List ℕ) where
-  abbrev Result : Answer → List ℕ → List ℕ → Type 0
+  abbrev Result : Returned → List ℕ → List ℕ → Type 0
   Result = Answered Allowance cs ds ts responses allowances
 
   abbrev rows : List Row
@@ -89,7 +88,7 @@ module _ (Allowance : List Row → ℕ → ℕ → Type 0)
       → ForEach rows (IsResponse rows) Rs′
       → ForEach rows (Allowance rows) As
       → ForEach rows (Allowance rows) As′
-      → Same Accepted Accepted (filled Rs responses) (filled Rs′ responses) (filled As allowances) (filled As′ allowances)
+      → Same (returned 0 0) (returned 0 0) (filled Rs responses) (filled Rs′ responses) (filled As allowances) (filled As′ allowances)
   both-accepted Rs Rs′ As As′ r r′ a a′ = record {
     same-answer = refl;
     same-responses = ap (λ (xs : List ℕ). filled xs responses) (for-each-unique rows (IsResponse rows) (λ k x y h. response-unique rows k x y) Rs Rs′ r r′);
@@ -97,26 +96,26 @@ module _ (Allowance : List Row → ℕ → ℕ → Type 0)
   }
 
   -- A PROMISE DETERMINES THE RESULT
-  pub answered-unique : {a b : Answer} {rs ss ls ms : List ℕ} → Result a rs ls → Result b ss ms → Same a b rs ss ls ms
-  answered-unique (rows-out-of-range n) (rows-out-of-range n′) = refused-alike RowsOutOfRange RowsOutOfRange responses allowances refl
+  pub answered-unique : {a b : Returned} {rs ss ls ms : List ℕ} → Result a rs ls → Result b ss ms → Same a b rs ss ls ms
+  answered-unique (rows-out-of-range n) (rows-out-of-range n′) = refused-alike (returned 3 0) (returned 3 0) responses allowances refl
   answered-unique (rows-out-of-range n) (row-breaks-limits k′ s′ f′) = absurd (n s′)
   answered-unique (rows-out-of-range n) (output-too-short s′ w′ o′) = absurd (n s′)
   answered-unique (rows-out-of-range n) (row-misses k′ s′ w′ r′ a′ m′) = absurd (n s′)
   answered-unique (rows-out-of-range n) (accepted Rs′ As′ s′ w′ r′ a′ all′ is-R′ is-A′) = absurd (n s′)
   answered-unique (row-breaks-limits k s f) (rows-out-of-range n′) = absurd (n′ s)
-  answered-unique (row-breaks-limits k s f) (row-breaks-limits k′ s′ f′) = refused-alike (RowBreaksLimits (suc k)) (RowBreaksLimits (suc k′)) responses allowances (ap (λ (x : ℕ). RowBreaksLimits (suc x)) (first-broken-unique rows k k′ f f′))
+  answered-unique (row-breaks-limits k s f) (row-breaks-limits k′ s′ f′) = refused-alike (returned 4 (suc k)) (returned 4 (suc k′)) responses allowances (ap (λ (x : ℕ). returned 4 (suc x)) (first-broken-unique rows k k′ f f′))
   answered-unique (row-breaks-limits k s f) (output-too-short s′ w′ o′) = clash k f w′
   answered-unique (row-breaks-limits k s f) (row-misses k′ s′ w′ r′ a′ m′) = clash k f w′
   answered-unique (row-breaks-limits k s f) (accepted Rs′ As′ s′ w′ r′ a′ all′ is-R′ is-A′) = clash k f w′
   answered-unique (output-too-short s w o) (rows-out-of-range n′) = absurd (n′ s)
   answered-unique (output-too-short s w o) (row-breaks-limits k′ s′ f′) = clash k′ f′ w
-  answered-unique (output-too-short s w o) (output-too-short s′ w′ o′) = refused-alike OutputTooShort OutputTooShort responses allowances refl
+  answered-unique (output-too-short s w o) (output-too-short s′ w′ o′) = refused-alike (returned 7 0) (returned 7 0) responses allowances refl
   answered-unique (output-too-short s w o) (row-misses k′ s′ w′ r′ a′ m′) = short o r′ a′
   answered-unique (output-too-short s w o) (accepted Rs′ As′ s′ w′ r′ a′ all′ is-R′ is-A′) = short o r′ a′
   answered-unique (row-misses k s w r a m) (rows-out-of-range n′) = absurd (n′ s)
   answered-unique (row-misses k s w r a m) (row-breaks-limits k′ s′ f′) = clash k′ f′ w
   answered-unique (row-misses k s w r a m) (output-too-short s′ w′ o′) = short o′ r a
-  answered-unique (row-misses k s w r a m) (row-misses k′ s′ w′ r′ a′ m′) = refused-alike (RowMisses (suc k)) (RowMisses (suc k′)) responses allowances (ap (λ (x : ℕ). RowMisses (suc x)) (first-miss-unique rows k k′ m m′))
+  answered-unique (row-misses k s w r a m) (row-misses k′ s′ w′ r′ a′ m′) = refused-alike (returned 8 (suc k)) (returned 8 (suc k′)) responses allowances (ap (λ (x : ℕ). returned 8 (suc x)) (first-miss-unique rows k k′ m m′))
   answered-unique (row-misses k s w r a m) (accepted Rs′ As′ s′ w′ r′ a′ all′ is-R′ is-A′) = late k m all′
   answered-unique (accepted Rs As s w r a all is-R is-A) (rows-out-of-range n′) = absurd (n′ s)
   answered-unique (accepted Rs As s w r a all is-R is-A) (row-breaks-limits k′ s′ f′) = clash k′ f′ w
@@ -125,14 +124,14 @@ module _ (Allowance : List Row → ℕ → ℕ → Type 0)
   answered-unique (accepted Rs As s w r a all is-R is-A) (accepted Rs′ As′ s′ w′ r′ a′ all′ is-R′ is-A′) = both-accepted Rs Rs′ As As′ is-R is-R′ is-A is-A′
 
 -- the set service's promise determines its result
-pub set-answered-unique : (cs ds ts responses allowances : List ℕ) {a b : Answer} {rs ss ls ms : List ℕ}
+pub set-answered-unique : (cs ds ts responses allowances : List ℕ) {a b : Returned} {rs ss ls ms : List ℕ}
     → SetAnswered cs ds ts responses allowances a rs ls
     → SetAnswered cs ds ts responses allowances b ss ms
     → Same a b rs ss ls ms
 set-answered-unique = answered-unique IsAllowance allowance-unique
 
 -- so does the point service's
-pub point-answered-unique : (cs ds ts responses allowances : List ℕ) {a b : Answer} {rs ss ls ms : List ℕ}
+pub point-answered-unique : (cs ds ts responses allowances : List ℕ) {a b : Returned} {rs ss ls ms : List ℕ}
     → PointAnswered cs ds ts responses allowances a rs ls
     → PointAnswered cs ds ts responses allowances b ss ms
     → Same a b rs ss ls ms
@@ -143,7 +142,7 @@ point-answered-unique =
 module _ (First Second : List Row → ℕ → ℕ → Type 0)
     (carries : (rows : List Row) → AllWithin rows → AllMeet rows → (i a : ℕ) → i < length rows → First rows i a → Second rows i a)
     (cs ds ts responses allowances : List ℕ) where
-  answers-carry : {a : Answer} {rs ls : List ℕ} → Answered First cs ds ts responses allowances a rs ls → Answered Second cs ds ts responses allowances a rs ls
+  answers-carry : {a : Returned} {rs ls : List ℕ} → Answered First cs ds ts responses allowances a rs ls → Answered Second cs ds ts responses allowances a rs ls
   answers-carry (rows-out-of-range n) = rows-out-of-range n
   answers-carry (row-breaks-limits k s f) = row-breaks-limits k s f
   answers-carry (output-too-short s w o) = output-too-short s w o
@@ -153,7 +152,7 @@ module _ (First Second : List Row → ℕ → ℕ → Type 0)
       (record { one-each = is-A .one-each; right = λ k h. carries (rowsOf cs ds ts) w all k (getD As k 0) h (is-A .right k h) })
 
 -- DEMAND 3 ON THE SERVICES: what one of the two promises the other does
-pub services-agree : (cs ds ts responses allowances : List ℕ) {a : Answer} {rs ls : List ℕ}
+pub services-agree : (cs ds ts responses allowances : List ℕ) {a : Returned} {rs ls : List ℕ}
     → SetAnswered cs ds ts responses allowances a rs ls ↔ PointAnswered cs ds ts responses allowances a rs ls
 services-agree cs ds ts responses allowances = (
   answers-carry IsAllowance (λ rows i a. IsPointAllowance rows i (pos a)) (λ rows w all i a h. points-of-allowance rows (within-steady rows w) i h all a) cs ds ts responses allowances,

@@ -8,9 +8,9 @@ use mathlib.Core.Logic.{⊎-elim}
 use mathlib.Core.List.{List, [], _∷_, _++_, map, List·Memᴰ, List·Memᴰ·head, List·Memᴰ·tail}
 use lib.Dec.{T}
 use lib.ListN.{length, getD, length-map}
-use Rattle.theory.specs.Gather.{upFrom, keep, insert, sort}
+use Rattle.theory.specs.Gather.{upFrom, keep, insert, sort, All}
 use Rattle.theory.proofs.Tests.{equal-or-not}
-use Rattle.theory.proofs.Each.{All, keep-cases, insert-cases, T-false, all-keep, all-sort}
+use Rattle.theory.proofs.Each.{keep-cases, insert-cases, T-false, all-keep, all-sort}
 
 -- each: each member
 pub all-at : (P : ℕ → Type 0) {x : ℕ} {xs : List ℕ} → List·Memᴰ x xs → All P xs → P x

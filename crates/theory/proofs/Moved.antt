@@ -6,7 +6,7 @@ use mathlib.Core.Logic.{_⊎_, inl, inr, ⊎-elim}
 use lib.Dec.{T}
 use lib.IntN.{ℤ}
 use lib.Signed.{ltZ, leZ, _≤ℤ_, ≤ℤ-refl, ltZ-yes, ltZ-no, clashℤ}
-use Rattle.theory.specs.Moved.{MovedTo, RaisedTo, LoweredTo, greater, smaller}
+use Rattle.theory.specs.Moved.{MovedTo, LiftedTo, LoweredTo, greater, smaller}
 use Rattle.theory.proofs.Signed.{≤ℤ-trans, leZ-passes, leZ-fails}
 
 module _ (Before : ℤ → ℤ → Type 0) (reflexive : (z : ℤ) → Before z z) (transitive : (x y z : ℤ) → Before x y → Before y z → Before x z) (value : ℕ → ℤ) where
@@ -61,11 +61,11 @@ pub not-less : (a b : ℤ) → ltZ a b ≡ false → b ≤ℤ a
 not-less a b e = ltZ-no (subst (λ (t : Bool). T (not t)) (sym e) tt)
 
 -- the greater of a number and what a function gives at one
-pub raised-at : (value : ℕ → ℤ) (p : ℕ) (before : ℤ) → RaisedTo value (λ x. x ≡ p) before (greater before (value p))
+pub lifted-at : (value : ℕ → ℤ) (p : ℕ) (before : ℤ) → LiftedTo value (λ x. x ≡ p) before (greater before (value p))
 unfolding greater
-raised-at value p before = go (ltZ before (value p)) refl
+lifted-at value p before = go (ltZ before (value p)) refl
   where
-    go : (t : Bool) → ltZ before (value p) ≡ t → RaisedTo value (λ x. x ≡ p) before (elim t [ true ↦ value p | false ↦ before ])
+    go : (t : Bool) → ltZ before (value p) ≡ t → LiftedTo value (λ x. x ≡ p) before (elim t [ true ↦ value p | false ↦ before ])
     go true e = moved-to (λ a b. a ≤ℤ b) ≤ℤ-refl ≤ℤ-trans value p before (less-or-equal before (value p) e)
     go false e = moved-nowhere (λ a b. a ≤ℤ b) ≤ℤ-refl ≤ℤ-trans value p before (not-less before (value p) e)
 

@@ -3,9 +3,10 @@ use Prim.Native.Nat.{ℕ, _<_, zero-le}
 use native.Mathlib.Omega.{arith}
 use mathlib.Core.List.{List, List·Memᴰ}
 use lib.ListN.{length}
+use Rattle.theory.specs.Gather.{All}
 use Rattle.theory.specs.Row.{Row}
 use Rattle.theory.specs.Rank.{places}
-use Rattle.theory.proofs.Each.{All, all-map, all-upFrom}
+use Rattle.theory.proofs.Each.{all-map, all-upFrom}
 use Rattle.theory.proofs.Member.{all-at, mem-upFrom}
 
 module _ (rows : List Row) where

@@ -10,10 +10,10 @@ use lib.Dec.{T}
 use lib.ListN.{length, getD, take, drop, length-map}
 use lib.Seq.{split-at, take-length}
 use Rattle.theory.specs.Row.{Row, rowAt}
-use Rattle.theory.specs.Gather.{sum, sort}
+use Rattle.theory.specs.Gather.{sum, sort, All}
 use Rattle.theory.specs.Rank.{places, above, rival, rivals, levels}
 use Rattle.theory.specs.Response.{demand, load, own}
-use Rattle.theory.proofs.Each.{All, all-map, all-kept, true-of}
+use Rattle.theory.proofs.Each.{all-map, all-kept, true-of}
 use Rattle.theory.proofs.Member.{all-at, mem-keep, mem-of-sort, mem-getD}
 use Rattle.theory.proofs.Places.{places-inside, mem-places}
 use Rattle.theory.proofs.Sum.{where-passes, where-passes-true, sum-append, sum-sort, sum-keep-le, sum-keep, sum-eq}

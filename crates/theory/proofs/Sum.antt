@@ -7,8 +7,8 @@ use mathlib.Core.Bool.{Bool, true, false}
 use mathlib.Core.List.{List, [], _∷_, _++_, List·Memᴰ, List·Memᴰ·head, List·Memᴰ·tail}
 use lib.Dec.{eqb}
 use borrow.Author.Tests.{eq-eqb, ne-eqb}
-use Rattle.theory.specs.Gather.{keep, sum, insert, sort}
-use Rattle.theory.proofs.Each.{All, keep-cases, insert-cases, all-map}
+use Rattle.theory.specs.Gather.{keep, sum, insert, sort, All}
+use Rattle.theory.proofs.Each.{keep-cases, insert-cases, all-map}
 use Rattle.theory.proofs.Member.{all-at, all-from}
 use Rattle.theory.proofs.Order.{Ordered}
 

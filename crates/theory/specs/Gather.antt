@@ -29,6 +29,11 @@ unfoldable pub every : (ℕ → Bool) → List ℕ → Bool
 every test [] = true
 every test (x ∷ xs) = test x && every test xs
 
+-- P holds of each of a list
+abbrev pub All : (ℕ → Type 0) → List ℕ → Type 0
+All P [] = Unit {0}
+All P (x ∷ xs) = P x × All P xs
+
 -- x put into a list before the first that it precedes
 unfoldable pub insert : (ℕ → ℕ → Bool) → ℕ → List ℕ → List ℕ
 insert precedes x [] = x ∷ []

@@ -1,5 +1,5 @@
 -- Document 01 for one core, as definitions, in the order of the document.
-pub mod Answer
+pub mod Returned
 pub mod Gather
 pub mod Row
 pub mod Rank

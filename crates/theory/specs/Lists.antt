@@ -5,8 +5,7 @@ use mathlib.Core.Logic.{_⊎_}
 use mathlib.Core.List.{List, [], _∷_, _++_}
 use lib.IntN.{pos}
 use lib.ListN.{length, getD, drop}
-use Rattle.theory.specs.declared.Answer.{Answer}
-use Rattle.theory.specs.declared.Answer.the-variants.{Accepted, RowsOutOfRange, RowBreaksLimits, OutputTooShort, RowMisses}
+use Rattle.theory.specs.Returned.{Returned, returned}
 use Rattle.theory.specs.Row.{Row, AllWithin, FirstBroken}
 use Rattle.theory.specs.Response.{AllMeet, FirstMiss, IsResponse}
 use Rattle.theory.specs.Allowance.{IsAllowance}
@@ -35,22 +34,22 @@ pub record ForEach (rows : List Row) (Right : ℕ → ℕ → Type 0) (numbers :
 abbrev pub filled : List ℕ → List ℕ → List ℕ
 filled answers before = answers ++ drop (length answers) before
 
--- What a list service answers, and what its two lent lists hold at the end. The checks stand in their order, and a refusal leaves
+-- What a list service returns, and what its two lent lists hold at the end. The checks stand in their order, and a refusal leaves
 -- both lists as they were. `Allowance rows i a` says that a is the allowance of row i as the service means it.
-pub data Answered (Allowance : List Row → ℕ → ℕ → Type 0) (cs ds ts responses allowances : List ℕ) : Answer → List ℕ → List ℕ → Type 0 where
+pub data Answered (Allowance : List Row → ℕ → ℕ → Type 0) (cs ds ts responses allowances : List ℕ) : Returned → List ℕ → List ℕ → Type 0 where
   rows-out-of-range :
       (Shaped cs ds ts → ⊥)
-      → Answered Allowance cs ds ts responses allowances RowsOutOfRange responses allowances
+      → Answered Allowance cs ds ts responses allowances (returned 3 0) responses allowances
   row-breaks-limits :
       (k : ℕ)
       → Shaped cs ds ts
       → FirstBroken (rowsOf cs ds ts) k
-      → Answered Allowance cs ds ts responses allowances (RowBreaksLimits (suc k)) responses allowances
+      → Answered Allowance cs ds ts responses allowances (returned 4 (suc k)) responses allowances
   output-too-short :
       Shaped cs ds ts
       → AllWithin (rowsOf cs ds ts)
       → (length responses < length cs) ⊎ (length allowances < length cs)
-      → Answered Allowance cs ds ts responses allowances OutputTooShort responses allowances
+      → Answered Allowance cs ds ts responses allowances (returned 7 0) responses allowances
   row-misses :
       (k : ℕ)
       → Shaped cs ds ts
@@ -58,7 +57,7 @@ pub data Answered (Allowance : List Row → ℕ → ℕ → Type 0) (cs ds ts re
       → length cs ≤ length responses
       → length cs ≤ length allowances
       → FirstMiss (rowsOf cs ds ts) k
-      → Answered Allowance cs ds ts responses allowances (RowMisses (suc k)) responses allowances
+      → Answered Allowance cs ds ts responses allowances (returned 8 (suc k)) responses allowances
   accepted :
       (Rs As : List ℕ)
       → Shaped cs ds ts
@@ -68,12 +67,12 @@ pub data Answered (Allowance : List Row → ℕ → ℕ → Type 0) (cs ds ts re
       → AllMeet (rowsOf cs ds ts)
       → ForEach (rowsOf cs ds ts) (IsResponse (rowsOf cs ds ts)) Rs
       → ForEach (rowsOf cs ds ts) (Allowance (rowsOf cs ds ts)) As
-      → Answered Allowance cs ds ts responses allowances Accepted (filled Rs responses) (filled As allowances)
+      → Answered Allowance cs ds ts responses allowances (returned 0 0) (filled Rs responses) (filled As allowances)
 
 -- the set service: allowances by the definition
-abbrev pub SetAnswered : List ℕ → List ℕ → List ℕ → List ℕ → List ℕ → Answer → List ℕ → List ℕ → Type 0
+abbrev pub SetAnswered : List ℕ → List ℕ → List ℕ → List ℕ → List ℕ → Returned → List ℕ → List ℕ → Type 0
 SetAnswered = Answered IsAllowance
 
 -- the point service: allowances by the point formula
-abbrev pub PointAnswered : List ℕ → List ℕ → List ℕ → List ℕ → List ℕ → Answer → List ℕ → List ℕ → Type 0
+abbrev pub PointAnswered : List ℕ → List ℕ → List ℕ → List ℕ → List ℕ → Returned → List ℕ → List ℕ → Type 0
 PointAnswered = Answered (λ rows i a. IsPointAllowance rows i (pos a))

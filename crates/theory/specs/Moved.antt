@@ -12,9 +12,9 @@ pub record MovedTo (Before : ℤ → ℤ → Type 0) (value : ℕ → ℤ) (Visi
   pub past-visited : (p : ℕ) → Visited p → Before (value p) after
   pub attained : (after ≡ before) ⊎ ((p : ℕ) × Visited p × (value p ≡ after))
 
--- raised to the greatest of itself and those
-abbrev pub RaisedTo : (ℕ → ℤ) → (ℕ → Type 0) → ℤ → ℤ → Type 0
-RaisedTo = MovedTo (λ a b. a ≤ℤ b)
+-- lifted to the greatest of itself and those
+abbrev pub LiftedTo : (ℕ → ℤ) → (ℕ → Type 0) → ℤ → ℤ → Type 0
+LiftedTo = MovedTo (λ a b. a ≤ℤ b)
 
 -- lowered to the smallest of itself and those
 abbrev pub LoweredTo : (ℕ → ℤ) → (ℕ → Type 0) → ℤ → ℤ → Type 0

@@ -1,13 +1,1 @@
-// The answers of the three services. `specs/` states document 01 for one core, and gives each answer its number and row.
-
-pub enum Answer {
-    Accepted,
-    RecordsBroken,
-    CoresOutOfRange,
-    RowsOutOfRange,
-    RowBreaksLimits(u32),
-    CountDiffers,
-    NoCoreTakes(u32),
-    OutputTooShort,
-    RowMisses(u32),
-}
+// Document 01 for one core, as definitions in `specs/` and what is proved of them in `proofs/`: no code.

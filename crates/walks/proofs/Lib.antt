@@ -3,7 +3,7 @@ pub mod Held
 pub mod Rounding
 pub mod Quotients
 pub mod Exceeds
-pub mod Raised
+pub mod Lifted
 pub mod NewPoints
 pub mod Level
 pub mod Range

@@ -1,4 +1,4 @@
--- The quotients of a row at a point, one for each row above it and one for itself, and a list of numbers raised to the greatest of them.
+-- The quotients of a row at a point, one for each row above it and one for itself, and a list of numbers lifted to the greatest of them.
 use mathlib.Core.Path.{_≡_}
 use Prim.Native.Nat.{ℕ, _≤_, _<_}
 use mathlib.Core.Bool.{true, false}
@@ -8,7 +8,7 @@ use lib.IntN.{ℤ, pos, negsuc, _-ℤ_}
 use lib.Signed.{_≤ℤ_}
 use lib.ListN.{length, getD}
 use Rattle.theory.specs.Response.{ceil}
-use Rattle.theory.specs.Moved.{RaisedTo}
+use Rattle.theory.specs.Moved.{LiftedTo}
 use Rattle.theory.specs.Points.{floorDiv, walk}
 use Rattle.theory.specs.Lists.{rowsOf}
 use Rattle.demands.specs.Levels.{loadOf}
@@ -42,7 +42,7 @@ AllInRange cs best = (j : ℕ) → j ≤ length cs → InRange (getD best j (pos
 abbrev pub NewPoints : List ℕ → List ℕ → ℕ → ℕ → ℕ → ℕ → Type 0
 NewPoints cs ts level time last p = List·Memᴰ p (walk (rowsOf cs ts ts) level time) × (last < p)
 
--- every entry, the row's own too, raised to the greatest of its quotients at the visited points
-abbrev pub AllRaised : ℕ → List ℕ → List ℕ → (ℕ → Type 0) → List ℤ → List ℤ → Type 0
-AllRaised own cs ts Visited before after =
-    (j : ℕ) → j ≤ length cs → RaisedTo (quotientOf own cs ts j) Visited (getD before j (pos 0)) (getD after j (pos 0))
+-- every entry, the row's own too, lifted to the greatest of its quotients at the visited points
+abbrev pub AllLifted : ℕ → List ℕ → List ℕ → (ℕ → Type 0) → List ℤ → List ℤ → Type 0
+AllLifted own cs ts Visited before after =
+    (j : ℕ) → j ≤ length cs → LiftedTo (quotientOf own cs ts j) Visited (getD before j (pos 0)) (getD after j (pos 0))

@@ -7,7 +7,7 @@ ghost use lib.ListN.{length, getD, set};
 ghost use Rattle.theory.specs.Moved.{greater};
 ghost use Rattle.theory.specs.Points.{floorDiv, lastMultiple};
 ghost use Rattle.demands.specs.Levels.{Small, demandOf, loadOf};
-ghost use Rattle.walks.specs.Quotients.{HoldsJobs, InRange, AllInRange, NewPoints, AllRaised};
+ghost use Rattle.walks.specs.Quotients.{HoldsJobs, InRange, AllInRange, NewPoints, AllLifted};
 
 fn wide(x: u32) -> i64
     ensures { λ r. ⌜ r ≡ pos x ⌝ }
@@ -23,8 +23,8 @@ pub fn floor_div(z: i64, m: i64) -> i64
     if z < 0 { (z + 1) / m - 1 } else { z / m }
 }
 
-// What rows ask for up to a time; the jobs of each are left at the front of a list.
-fn ask(c: &[u32], t: &[u32], time: u32, jobs: &mut [u32]) -> u32
+// What rows ask for up to a time, as `demands::demand` says it, with the jobs of each left at the front of a list: they are wanted for the quotients too.
+fn demand_with_jobs(c: &[u32], t: &[u32], time: u32, jobs: &mut [u32]) -> u32
     requires { ⌜ Small (now c) (now t) ⌝ }
     requires { ⌜ time ≤ 1_000_000 ⌝ }
     requires { ⌜ length (now c) ≤ length (now jobs) ⌝ }
@@ -50,11 +50,11 @@ fn slack_at(p: u32, own: u32, c: &[u32], t: &[u32], jobs: &mut [u32]) -> i64
     ensures { λ r. ⌜ r ≡ pos p -ℤ pos (loadOf own (now (c .entry)) (now (t .entry)) p) ⌝ }
     ensures { λ _. ⌜ HoldsJobs (now (t .entry)) p (now (jobs .exit)) ⌝ }
 {
-    wide(p) - wide(own + ask(c, t, p, jobs))
+    wide(p) - wide(own + demand_with_jobs(c, t, p, jobs))
 }
 
-// Raises an entry to a number, where that is greater.
-fn raise(best: &mut [i64], j: usize, q: i64)
+// Lifts an entry to a number, where that is greater.
+fn lift(best: &mut [i64], j: usize, q: i64)
     requires { ⌜ j < length (now best) ⌝ }
     ensures { λ _. ⌜ now (best .exit) ≡ set (now (best .entry)) j (greater (getD (now (best .entry)) j (pos 0)) q) ⌝ }
 {
@@ -63,9 +63,9 @@ fn raise(best: &mut [i64], j: usize, q: i64)
     }
 }
 
-// Raises an entry to the quotient of a slack by m, where that is greater. Only there is it divided out: a quotient is greater than an entry exactly
+// Lifts an entry to the quotient of a slack by m, where that is greater. Only there is it divided out: a quotient is greater than an entry exactly
 // when one more than the entry, times m, is at most the slack.
-fn raise_to_quotient(best: &mut [i64], j: usize, slack: i64, m: u32)
+fn lift_to_quotient(best: &mut [i64], j: usize, slack: i64, m: u32)
     requires { ⌜ j < length (now best) ⌝ }
     requires { ⌜ InRange (getD (now best) j (pos 0)) ⌝ }
     requires { ⌜ (1 ≤ m) × (m ≤ 1_000_000) ⌝ }
@@ -77,22 +77,22 @@ fn raise_to_quotient(best: &mut [i64], j: usize, slack: i64, m: u32)
     }
 }
 
-// Raises each best quotient to the quotient at a point, where that is greater.
+// Lifts each best quotient to the quotient at a point, where that is greater.
 fn visit(p: u32, own: u32, c: &[u32], t: &[u32], best: &mut [i64])
     requires { ⌜ Small (now c) (now t) ⌝ }
     requires { ⌜ (1 ≤ p) × (p ≤ 1_000_000) × (own ≤ 1_000_000) ⌝ }
     requires { ⌜ length (now c) < length (now best) ⌝ }
     requires { ⌜ AllInRange (now c) (now best) ⌝ }
-    ensures { λ _. ⌜ AllRaised own (now (c .entry)) (now (t .entry)) (λ x. x ≡ p) (now (best .entry)) (now (best .exit)) ⌝ }
+    ensures { λ _. ⌜ AllLifted own (now (c .entry)) (now (t .entry)) (λ x. x ≡ p) (now (best .entry)) (now (best .exit)) ⌝ }
 {
     let mut jobs = [0u32; 24];
     let slack = slack_at(p, own, c, t, &mut jobs);
     let mut j = 0;
     while j < c.len() {
-        raise_to_quotient(best, j, slack, jobs[j]);
+        lift_to_quotient(best, j, slack, jobs[j]);
         j += 1;
     }
-    raise(best, j, slack);
+    lift(best, j, slack);
 }
 
 // The largest multiple of m not above a time.
@@ -118,7 +118,7 @@ pub fn walk_on(
     requires { ⌜ (1 ≤ time) × (time ≤ 1_000_000) × (own ≤ 1_000_000) ⌝ }
     requires { ⌜ length (now c) < length (now best) ⌝ }
     requires { ⌜ AllInRange (now c) (now best) ⌝ }
-    ensures { λ r. ⌜ (r ≡ max last time) × AllRaised own (now (c .entry)) (now (t .entry)) (NewPoints (now (c .entry)) (now (t .entry)) level time last) (now (best .entry)) (now (best .exit)) ⌝ }
+    ensures { λ r. ⌜ (r ≡ max last time) × AllLifted own (now (c .entry)) (now (t .entry)) (NewPoints (now (c .entry)) (now (t .entry)) level time last) (now (best .entry)) (now (best .exit)) ⌝ }
 {
     if time <= last {
         return last;

@@ -6,7 +6,7 @@ use native.Mathlib.Omega.{arith}
 use borrow.Author.Needs.{needs}
 use lib.ListN.{length, take, replicate}
 use lib.Seq.{length-take-le}
-use Rattle.theory.specs.declared.Answer.the-variants.{Accepted}
+use Rattle.answers.specs.declared.Answer.the-variants.{Accepted}
 use Rattle.theory.proofs.RowsOf.{rows-of-length}
 use Rattle.placement.specs.Choice.{allowanceFit}
 use Rattle.placement.specs.Placement.{Moment}

@@ -5,7 +5,7 @@ use mathlib.Core.List.{List, _++_}
 use native.Mathlib.Omega.{arith}
 use lib.ListN.{length, take, drop, replicate}
 use lib.Seq.{length-front, length-take-le}
-use Rattle.theory.specs.Answer.{numberOf}
+use Rattle.answers.specs.Answer.{numberOf}
 use Rattle.records.proofs.Number.{AllBelow}
 use Rattle.records.specs.ListBytes.{numbersIn}
 use Rattle.records.proofs.ListBytes.{numbers-length}

@@ -5,9 +5,9 @@ use native.Mathlib.Omega.{arith}
 use borrow.Author.Needs.{needs}
 use lib.ListN.{length}
 use lib.Seq.{length-take-le}
+use Rattle.theory.specs.Gather.{All}
 use Rattle.theory.specs.Response.{AllMeet}
 use Rattle.theory.specs.Lists.{rowsOf}
-use Rattle.theory.proofs.Each.{All}
 use Rattle.cores.proofs.Gathered.{GatheredRows, gathered-rows}
 use Rattle.figures.proofs.Written.{figured-same, none-figured}
 use Rattle.figures.proofs.write_at.Statement.{statement}

@@ -5,7 +5,7 @@ use native.Mathlib.Omega.{arith}
 use borrow.Author.Needs.{needs}
 use lib.ListN.{length, getD, take}
 use lib.Seq.{length-take-le}
-use Rattle.theory.proofs.Each.{All}
+use Rattle.theory.specs.Gather.{All}
 use Rattle.climbs.specs.Ranking.{rankingBy}
 use Rattle.climbs.proofs.OrderByRank.{ranked-long, ranked-inside}
 use Rattle.climbs.proofs.InLists.{order-ranked, order-in-lists}

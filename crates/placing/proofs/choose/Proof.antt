@@ -4,7 +4,7 @@ use Prim.Native.Nat.{ℕ, _-_, _≤_, _<_}
 use native.Mathlib.Omega.{arith}
 use borrow.Author.Needs.{needs}
 use lib.ListN.{length}
-use Rattle.theory.proofs.Each.{All}
+use Rattle.theory.specs.Gather.{All}
 use Rattle.placement.specs.Choice.{allowanceFit}
 use Rattle.cores.specs.Cores.{HeldWithout, heldPlaces}
 use Rattle.cores.proofs.Held.{held-count, held-inside, held-in-table, held-fewer}

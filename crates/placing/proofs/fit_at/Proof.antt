@@ -6,9 +6,10 @@ use native.Mathlib.Omega.{arith}
 use borrow.Author.Needs.{needs}
 use lib.ListN.{length, take}
 use lib.Seq.{length-take-le}
+use Rattle.theory.specs.Gather.{All}
 use Rattle.theory.specs.Row.{Row}
 use Rattle.theory.specs.Lists.{rowsOf}
-use Rattle.theory.proofs.Each.{All, all-map}
+use Rattle.theory.proofs.Each.{all-map}
 use Rattle.fits.specs.Fit.{IsFit}
 use Rattle.cores.proofs.Gathered.{GatheredRows, gathered-rows}
 use Rattle.placing.proofs.fit_at.Statement.{statement}

@@ -8,9 +8,9 @@ use borrow.Author.Needs.{needs}
 use lib.Dec.{ltb}
 use lib.ListN.{length, take}
 use Rattle.theory.specs.Row.{rowAt}
-use Rattle.theory.specs.Gather.{insert}
+use Rattle.theory.specs.Gather.{insert, All}
 use Rattle.theory.specs.Lists.{rowsOf}
-use Rattle.theory.proofs.Each.{All, all-insert}
+use Rattle.theory.proofs.Each.{all-insert}
 use Rattle.theory.proofs.Member.{length-insert}
 use Rattle.fits.specs.Fit.{IsFit}
 use Rattle.placing.proofs.fit_with.Statement.{statement}

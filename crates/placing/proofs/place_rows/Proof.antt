@@ -7,7 +7,7 @@ use native.Mathlib.Numerals.{add-one}
 use borrow.Author.Needs.{needs}
 use lib.ListN.{length, getD, set, replicate, length-replicate}
 use lib.Seq.{getD-take}
-use Rattle.theory.specs.declared.Answer.the-variants.{NoCoreTakes}
+use Rattle.answers.specs.declared.Answer.the-variants.{NoCoreTakes}
 use Rattle.theory.proofs.RowsOf.{rows-of-length}
 use Rattle.placement.specs.Core.{Table}
 use Rattle.placement.specs.Order.{taken}

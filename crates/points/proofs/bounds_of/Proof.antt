@@ -1,4 +1,4 @@
--- `points::bounds_of` meets its contract: its entries begin below every quotient, and the walk raises them.
+-- `points::bounds_of` meets its contract: its entries begin below every quotient, and the walk lifts them.
 use native.Mathlib.Omega.{arith}
 use borrow.Author.Needs.{needs}
 use Rattle.points.proofs.SmallLoad.{begin-in-range}

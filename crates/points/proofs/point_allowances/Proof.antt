@@ -6,7 +6,7 @@ use mathlib.Core.List.{List}
 use native.Mathlib.Omega.{arith}
 use lib.ListN.{length, getD, take}
 use lib.Seq.{length-take-le}
-use Rattle.theory.proofs.Each.{All}
+use Rattle.theory.specs.Gather.{All}
 use Rattle.climbs.proofs.OrderByRank.{ranked-long}
 use Rattle.climbs.proofs.InLists.{order-in-lists}
 use Rattle.climbs.proofs.Load.{limits-at}

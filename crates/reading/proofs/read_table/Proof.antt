@@ -4,7 +4,7 @@ use Prim.Native.Nat.{ℕ, _≤_}
 use mathlib.Core.List.{List, []}
 use native.Mathlib.Omega.{arith}
 use lib.ListN.{drop}
-use Rattle.theory.specs.declared.Answer.the-variants.{RecordsBroken, CoresOutOfRange}
+use Rattle.answers.specs.declared.Answer.the-variants.{RecordsBroken, CoresOutOfRange}
 use Rattle.records.specs.Reading.{refused, readRows, readTable}
 use Rattle.reading.proofs.Answers.{refused-is-read}
 use Rattle.reading.proofs.CoresThere.{cores-cut, no-cores, cores-out-of-range, cores-in-range}

@@ -4,7 +4,7 @@ use Prim.Native.Nat.{ℕ}
 use native.Mathlib.Numerals.{add-one}
 use native.Mathlib.Omega.{arith}
 use mathlib.Core.Logic.{inl, inr}
-use Rattle.theory.specs.declared.Answer.the-variants.{RowBreaksLimits}
+use Rattle.answers.specs.declared.Answer.the-variants.{RowBreaksLimits}
 use Rattle.theory.specs.Row.{AllWithin}
 use Rattle.theory.specs.Lists.{rowsOf, Shaped}
 use Rattle.refusals.specs.Checked.{Checked, rows-out-of-range, row-breaks-limits, output-too-short, passed}

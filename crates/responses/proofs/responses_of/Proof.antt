@@ -5,11 +5,12 @@ use Prim.Native.Nat.{ℕ, _+_, _-_, _≤_, _<_}
 use native.Mathlib.Omega.{arith}
 use borrow.Author.Needs.{needs}
 use lib.ListN.{length, getD, take, set, length-take}
+use Rattle.theory.specs.Gather.{All}
 use Rattle.theory.specs.Row.{rowAt}
 use Rattle.theory.specs.Response.{Outcome, load, responds, misses, FirstMiss}
 use Rattle.theory.specs.Climb.{Climbed}
 use Rattle.theory.specs.Lists.{rowsOf, Shaped}
-use Rattle.theory.proofs.Each.{All, all-map}
+use Rattle.theory.proofs.Each.{all-map}
 use Rattle.demands.specs.Levels.{loadOf}
 use Rattle.climbs.specs.Climb.{outcomeOf}
 use Rattle.climbs.proofs.Load.{limits-at}

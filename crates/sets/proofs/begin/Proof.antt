@@ -3,7 +3,7 @@ use mathlib.Core.Path.{sym, _∙_}
 use Prim.Native.Nat.{_<_}
 use native.Mathlib.Omega.{arith}
 use borrow.Author.Needs.{needs}
-use Rattle.theory.specs.declared.Answer.the-variants.{Accepted}
+use Rattle.answers.specs.declared.Answer.the-variants.{Accepted}
 use Rattle.refusals.specs.Checked.{Checked}
 use Rattle.sets.specs.Begun.{refused}
 use Rattle.sets.proofs.Stages.{Passed, checks-accept, checks-pass, verdict-on-time, verdict-late, late-in-set}

@@ -6,7 +6,7 @@ use native.Mathlib.Omega.{arith}
 use borrow.Author.Needs.{needs}
 use lib.ListN.{length, take}
 use lib.Seq.{length-take-le}
-use Rattle.theory.specs.declared.Answer.the-variants.{Accepted}
+use Rattle.answers.specs.declared.Answer.the-variants.{Accepted}
 use Rattle.theory.specs.Lists.{filled}
 use Rattle.placement.specs.Choice.{allowanceFit}
 use Rattle.records.specs.Report.{figuresRecord, reportBytes}

@@ -7,7 +7,8 @@ use native.Mathlib.Omega.{arith}
 use borrow.Author.Needs.{needs}
 use lib.ListN.{length, getD, take}
 use lib.Seq.{length-take-le}
-use Rattle.theory.proofs.Each.{All, T-false, all-map}
+use Rattle.theory.specs.Gather.{All}
+use Rattle.theory.proofs.Each.{T-false, all-map}
 use Rattle.climbs.proofs.OrderByRank.{ranked-long, places-of-rows}
 use Rattle.climbs.proofs.InLists.{ranked, order-ranked, order-in-lists}
 use Rattle.trials.proofs.ByRank.{ListedByRank, length-by-rank, gathered-by-rank, in-time-by-rank, allowance-of-rank}

@@ -10,7 +10,7 @@ use borrow.Fn.PlainCycle.{Measures, is, falls, and}
 use Rattle.theory.proofs.Ceil.{multiple-below}
 use Rattle.demands.specs.Levels.{Small}
 use Rattle.walks.specs.Quotients.{AllInRange}
-use Rattle.walks.proofs.Level.{nothing-raised, start-raised, time-raised, both-raised}
+use Rattle.walks.proofs.Level.{nothing-lifted, start-lifted, time-lifted, both-lifted}
 use Rattle.walks.proofs.Range.{still-in-range}
 use Rattle.walks.proofs.walk_on.Reads as walk-on
 use Rattle.walks.proofs.walk_on.Kinds as walk-on-kinds
@@ -104,14 +104,14 @@ same-length-3 n c = c .before .walk-on3 .kept .1 .1 .1 .1 .1 .1 .0 ∙ c .before
 
 returns : (n : ℕ) → walk-on-lts.Need-returns (calls n) (at n) walk-on.Post
 returns n c =
-    let a = c .before .before .before .args in (omega (arith, c .if1 .taken), nothing-raised _ _ _ _ _ _ (omega (arith, c .if1 .taken)) (a .best .now))
+    let a = c .before .before .before .args in (omega (arith, c .if1 .taken), nothing-lifted _ _ _ _ _ _ (omega (arith, c .if1 .taken)) (a .best .now))
 
 returns-2 : (n : ℕ) → walk-on-lts.Need-returns-2 (calls n) (at n) walk-on.Post
 returns-2 n c =
     let a = c .before .before .before .before .before .before .before .args in
     let further = c .before .before .before .before .if1 .left in (
       omega (arith, further),
-      start-raised _ _ _ _ _ _ (omega (arith, further)) (c .before .before .before .if2 .taken) (a .best .now) (c .before .visit .last .1 .1 .1 .1 .0) (c .before .visit .ensures),
+      start-lifted _ _ _ _ _ _ (omega (arith, further)) (c .before .before .before .if2 .taken) (a .best .now) (c .before .visit .last .1 .1 .1 .1 .0) (c .before .visit .ensures),
     )
 
 returns-3 : (n : ℕ) → walk-on-lts.Need-returns-3 (calls n) (at n) walk-on.Post
@@ -120,7 +120,7 @@ returns-3 n c =
     let a = start .args in
     let multiple = c .before .before .before .before .last-multiple in (
       c .before .walk-on .ensures .0,
-      time-raised _ _ _ _ _ _ (start .pre .1 .0 .as-many) (a .level - 1) (omega (arith, c .before .before .before .before .before .before .if2 .left)) (multiple .result) (multiple .ensures) (c .before .before .before .if3 .taken) (a .best .now) (c .before .walk-on .last .1 .1 .1 .1 .1 .1 .0) (c .before .walk-on .ensures .1),
+      time-lifted _ _ _ _ _ _ (start .pre .1 .0 .as-many) (a .level - 1) (omega (arith, c .before .before .before .before .before .before .if2 .left)) (multiple .result) (multiple .ensures) (c .before .before .before .if3 .taken) (a .best .now) (c .before .walk-on .last .1 .1 .1 .1 .1 .1 .0) (c .before .walk-on .ensures .1),
     )
 
 returns-4 : (n : ℕ) → walk-on-lts.Need-returns-4 (calls n) (at n) walk-on.Post
@@ -131,7 +131,7 @@ returns-4 n c =
     let first = c .before .before .before .before .walk-on2 in
     let second = c .before .walk-on3 in (
       omega (arith, first .ensures .0, second .ensures .0, multiple .ensures, multiple-below (getD (a .t .now) (a .level - 1) 0) (a .time), c .before .before .before .before .before .before .before .before .before .before .if1 .left),
-      both-raised _ _ _ _ _ _ (start .pre .1 .0 .as-many) (a .level - 1) (omega (arith, c .before .before .before .before .before .before .before .before .before .if2 .left)) (multiple .result) (multiple .ensures) (omega (arith, c .before .before .before .before .before .before .if3 .left)) (first .result) (first .ensures .0) (a .best .now) (first .last .1 .1 .1 .1 .1 .1 .0) (second .last .1 .1 .1 .1 .1 .1 .0) (first .ensures .1) (second .ensures .1),
+      both-lifted _ _ _ _ _ _ (start .pre .1 .0 .as-many) (a .level - 1) (omega (arith, c .before .before .before .before .before .before .before .before .before .if2 .left)) (multiple .result) (multiple .ensures) (omega (arith, c .before .before .before .before .before .before .if3 .left)) (first .result) (first .ensures .0) (a .best .now) (first .last .1 .1 .1 .1 .1 .1 .0) (second .last .1 .1 .1 .1 .1 .1 .0) (first .ensures .1) (second .ensures .1),
     )
 
 pub +walk-on-spec : {M : Type 1} → statement M

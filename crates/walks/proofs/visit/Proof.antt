@@ -1,4 +1,4 @@
--- `walks::visit` meets its contract. The loop's invariant: the first j entries are raised to their quotients at the point, and the others are as they were.
+-- `walks::visit` meets its contract. The loop's invariant: the first j entries are lifted to their quotients at the point, and the others are as they were.
 use mathlib.Core.Path.{_≡_, refl, sym, ap₂, _∙_, subst}
 use Prim.Native.Nat.{ℕ, _+_, _-_, _≤_, _<_}
 use native.Mathlib.Omega.{arith}
@@ -9,12 +9,12 @@ use Rattle.demands.specs.Levels.{loadOf}
 use Rattle.walks.specs.Quotients.{quotientOf, InRange}
 use Rattle.walks.proofs.Held.{held, held-as-it-is}
 use Rattle.walks.proofs.Quotients.{jobs-within, quotient-above, quotient-own}
-use Rattle.walks.proofs.Raised.{RaisedUpTo, none-raised, one-more-raised}
+use Rattle.walks.proofs.Lifted.{LiftedUpTo, none-lifted, one-more-lifted}
 use Rattle.walks.proofs.visit.Statement.{statement}
 use Rattle.walks.proofs.visit.Tie as tie
 
 abbrev Inv-loop : tie.InvT-loop
-Inv-loop p own c t best₀ jobs slack j₀ best j = (j ≤ length c) × RaisedUpTo (quotientOf own c t) p j best₀ best
+Inv-loop p own c t best₀ jobs slack j₀ best j = (j ≤ length c) × LiftedUpTo (quotientOf own c t) p j best₀ best
 
 abbrev μ-loop : tie.MeasureT-loop
 μ-loop p own c t best₀ jobs slack j₀ best j = length c - j
@@ -27,16 +27,16 @@ slack-at-requires c κs =
     let given = c .before .before .before .pre in (given .0, ((given .1 .0 .1, given .1 .0 .2), given .0 .few))
 
 loop-holds : tie.Need-loop-holds Inv-loop μ-loop
-loop-holds c = (omega arith, none-raised _ _ _)
+loop-holds c = (omega arith, none-lifted _ _ _)
 
-mul-raise-to-quotient : tie.Need-mul-raise-to-quotient Inv-loop μ-loop
-mul-raise-to-quotient c = omega (arith, c .before .before .before .before .before .before .before .before .pre .0 .few, c .before .loop-test .taken)
+mul-lift-to-quotient : tie.Need-mul-lift-to-quotient Inv-loop μ-loop
+mul-lift-to-quotient c = omega (arith, c .before .before .before .before .before .before .before .before .pre .0 .few, c .before .loop-test .taken)
 
-array-read-raise-to-quotient : tie.Need-array-read-raise-to-quotient Inv-loop μ-loop
-array-read-raise-to-quotient c = omega (arith, c .before .before .before .before .before .before .before .before .pre .0 .few, c .before .loop-test .taken)
+array-read-lift-to-quotient : tie.Need-array-read-lift-to-quotient Inv-loop μ-loop
+array-read-lift-to-quotient c = omega (arith, c .before .before .before .before .before .before .before .before .pre .0 .few, c .before .loop-test .taken)
 
-raise-to-quotient-requires : tie.Need-raise-to-quotient-requires Inv-loop μ-loop
-raise-to-quotient-requires c κs =
+lift-to-quotient-requires : tie.Need-lift-to-quotient-requires Inv-loop μ-loop
+lift-to-quotient-requires c κs =
     let start = c .before .before .before .before .before .before .before .before in
     let small = start .pre .0 in
     let loop = c .before .before .loop in
@@ -68,29 +68,29 @@ loop-again c =
     let slack-at = c .before .before .before .before .before .before in
     let further : loop .j < length (start .args .t .now) = omega (arith, start .pre .0 .as-many, inside) in (
       omega (arith, inside),
-      one-more-raised _ _ _ _ _ _ _ (loop .inv .1) (omega (arith, start .pre .1 .1 .0, inside)) (c .before .raise-to-quotient .ensures)
+      one-more-lifted _ _ _ _ _ _ _ (loop .inv .1) (omega (arith, start .pre .1 .1 .0, inside)) (c .before .lift-to-quotient .ensures)
           (ap₂ floorDiv (dividend-is slack-at) (slack-at .slack-at .ensures .1 (loop .j) further) ∙ quotient-above _ _ _ _ _ further),
     )
 
-raise-requires : tie.Need-raise-requires Inv-loop μ-loop
-raise-requires c κs = omega (arith, c .before .before .before .before .before .before .before .before .pre .1 .1 .0, c .before .before .loop .inv .1 .as-long, c .before .before .loop .inv .0)
+lift-requires : tie.Need-lift-requires Inv-loop μ-loop
+lift-requires c κs = omega (arith, c .before .before .before .before .before .before .before .before .pre .1 .1 .0, c .before .before .loop .inv .1 .as-long, c .before .before .loop .inv .0)
 
--- at the end every entry is raised, the last one to the slack
-all-raised : (c : tie.After-best2 Inv-loop μ-loop)
+-- at the end every entry is lifted, the last one to the slack
+all-lifted : (c : tie.After-best2 Inv-loop μ-loop)
     → let a = c .before .before .before .before .before .before .before .before .before .before .args in
-    RaisedUpTo (quotientOf (a .own) (a .c .now) (a .t .now)) (a .p) (c .before .before .before .before .loop .j + 1) (a .best .now) (c .before .raise .last .0)
-all-raised c =
+    LiftedUpTo (quotientOf (a .own) (a .c .now) (a .t .now)) (a .p) (c .before .before .before .before .loop .j + 1) (a .best .now) (c .before .lift .last .0)
+all-lifted c =
     let start = c .before .before .before .before .before .before .before .before .before .before in
     let loop = c .before .before .before .before .loop in
     let left = c .before .before .before .loop-test .left in
-    one-more-raised _ _ _ _ _ _ _ (loop .inv .1) (omega (arith, start .pre .1 .1 .0, loop .inv .0)) (c .before .raise .ensures)
+    one-more-lifted _ _ _ _ _ _ _ (loop .inv .1) (omega (arith, start .pre .1 .1 .0, loop .inv .0)) (c .before .lift .ensures)
     (dividend-is (c .before .before .before .before .before .before) ∙ quotient-own _ _ _ _ _ (omega (arith, start .pre .0 .as-many, left)))
 
 same-length : tie.Need-same-length Inv-loop μ-loop
-same-length c = all-raised c .as-long
+same-length c = all-lifted c .as-long
 
 returns : tie.Need-returns Inv-loop μ-loop
-returns c = λ k h. all-raised c .raised k (omega (arith, c .before .before .before .loop-test .left))
+returns c = λ k h. all-lifted c .lifted k (omega (arith, c .before .before .before .loop-test .left))
 
 pub visit-spec : {M : Type 1} → statement M
 visit-spec =
@@ -101,12 +101,12 @@ visit-spec =
     slice-aggregate-slack-at
     slack-at-requires
     loop-holds
-    mul-raise-to-quotient
-    array-read-raise-to-quotient
-    raise-to-quotient-requires
+    mul-lift-to-quotient
+    array-read-lift-to-quotient
+    lift-to-quotient-requires
     add-j
     loop-less
     loop-again
-    raise-requires
+    lift-requires
     same-length
     returns)

@@ -1,4 +1,4 @@
--- `walks::ask` meets its contract. The loop's invariant: the sum is what the first h rows ask for, and the jobs of those are at the front of the list.
+-- `walks::demand_with_jobs` meets its contract. The loop's invariant: the sum is what the first h rows ask for, and the jobs of those are at the front of the list.
 use mathlib.Core.Path.{_≡_, refl, _∙_}
 use Prim.Native.Nat.{ℕ, _-_, _*_, _≤_, _<_}
 use native.Mathlib.Omega.{arith}
@@ -7,8 +7,8 @@ use lib.ListN.{length, getD, length-set}
 use lib.Seq.{getD-set-same, getD-set-other}
 use Rattle.theory.specs.Response.{ceil}
 use Rattle.demands.proofs.Asked.{AskedUpTo, none-asked, next-asked, one-more-asked, all-asked}
-use Rattle.walks.proofs.ask.Statement.{statement}
-use Rattle.walks.proofs.ask.Tie as tie
+use Rattle.walks.proofs.demand_with_jobs.Statement.{statement}
+use Rattle.walks.proofs.demand_with_jobs.Tie as tie
 
 abbrev Inv-loop : tie.InvT-loop
 Inv-loop c t time jobs₀ sum₀ h₀ jobs sum h =
@@ -87,8 +87,8 @@ returns c =
       λ k below. inv .2 k (omega (arith, start .pre .0 .as-many, c .loop-test .left)),
     )
 
-pub ask-spec : {M : Type 1} → statement M
-ask-spec =
+pub demand-with-jobs-spec : {M : Type 1} → statement M
+demand-with-jobs-spec =
     tie.close
     (tie.spec
     Inv-loop

@@ -1,4 +1,4 @@
--- `walks::raise_to_quotient` meets its contract: where the test fails, the quotient is not greater, and the list stays as it was.
+-- `walks::lift_to_quotient` meets its contract: where the test fails, the quotient is not greater, and the list stays as it was.
 use mathlib.Core.Path.{_≡_, sym, ap, ap₂, _∙_, subst}
 use borrow.Author.Needs.{needs}
 use lib.IntN.{ℤ, pos, natAbs}
@@ -12,8 +12,8 @@ use Rattle.theory.proofs.Greater.{greater-first, greater-second}
 use Rattle.theory.proofs.Signed.{pos-le}
 use Rattle.walks.proofs.Held.{held, held-as-it-is}
 use Rattle.walks.proofs.Exceeds.{next-fits, product-fits, says-whether}
-use Rattle.walks.proofs.raise_to_quotient.Statement.{statement}
-use Rattle.walks.proofs.raise_to_quotient.Tie as tie
+use Rattle.walks.proofs.lift_to_quotient.Statement.{statement}
+use Rattle.walks.proofs.lift_to_quotient.Tie as tie
 
 wide-requires : tie.Need-wide-requires
 wide-requires c κs = search needs
@@ -70,8 +70,8 @@ returns-2 c =
     let kept = says-whether (start .pre .1 .0) (start .pre .1 .1) (c .before .before .wide .ensures) (start .fits .slack) (c .if1 .left) in
     sym (ap (λ (x : ℤ). set (a .best .now) (a .j) x) (greater-first (getD (a .best .now) (a .j) (pos 0)) (floorDiv (a .slack) (a .m)) kept) ∙ set-getD (a .best .now) (a .j) (pos 0))
 
-pub raise-to-quotient-spec : {M : Type 1} → statement M
-raise-to-quotient-spec =
+pub lift-to-quotient-spec : {M : Type 1} → statement M
+lift-to-quotient-spec =
     tie.close
     (tie.spec
     wide-requires

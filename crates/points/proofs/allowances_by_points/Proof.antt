@@ -1,4 +1,4 @@
--- `sets::point_numbers` meets its contract.
+-- `points::allowances_by_points` meets its contract.
 use mathlib.Core.Path.{_≡_, sym, _∙_, subst}
 use Prim.Native.Nat.{_<_}
 use native.Mathlib.Omega.{arith}
@@ -8,10 +8,11 @@ use lib.ListN.{length, take}
 use lib.Seq.{getD-take, length-take-le}
 use Rattle.theory.specs.Points.{IsPointAllowance}
 use Rattle.theory.specs.Lists.{rowsOf}
+use Rattle.climbs.proofs.InLists.{in-rows}
 use Rattle.points.specs.Bounds.{IsSmall}
-use Rattle.sets.proofs.PointNumbers.{point-numbers-small}
-use Rattle.sets.proofs.point_numbers.Statement.{statement}
-use Rattle.sets.proofs.point_numbers.Tie as tie
+use Rattle.points.proofs.Small.{point-allowance-small}
+use Rattle.points.proofs.allowances_by_points.Statement.{statement}
+use Rattle.points.proofs.allowances_by_points.Tie as tie
 
 point-allowances-requires : tie.Need-point-allowances-requires
 point-allowances-requires c κs = search needs
@@ -37,7 +38,7 @@ as-numbers-requires c κs =
       λ i h.
           let inside : i < length (start .args .c .now) = omega (arith, h, front-length (c .before)) in
           subst IsSmall (sym (getD-take (length (start .args .c .now)) signed i (pos 0) inside))
-          (point-numbers-small (start .args .c .now) (start .args .d .now) (start .args .t .now) (start .args .response .now) (start .pre .0 .0) (start .pre .0 .1) (start .pre .1 .1) i inside _ (c .before .point-allowances .ensures .0 i inside)),
+          (point-allowance-small _ (start .pre .0 .1) (start .pre .1 .1) i (in-rows (start .args .c .now) (start .args .d .now) (start .args .t .now) (start .pre .0 .0) inside) _ (c .before .point-allowances .ensures .0 i inside)),
     )
 
 returns : tie.Need-returns
@@ -51,8 +52,8 @@ returns c =
       c .as-numbers .ensures .1,
     )
 
-pub point-numbers-spec : {M : Type 1} → statement M
-point-numbers-spec =
+pub allowances-by-points-spec : {M : Type 1} → statement M
+allowances-by-points-spec =
     tie.close
     (tie.spec
     point-allowances-requires

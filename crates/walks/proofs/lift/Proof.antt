@@ -1,4 +1,4 @@
--- `walks::raise` meets its contract: a number that is not greater leaves the list as it was.
+-- `walks::lift` meets its contract: a number that is not greater leaves the list as it was.
 use mathlib.Core.Path.{_≡_, sym, ap, _∙_}
 use mathlib.Core.Bool.{true, false}
 use borrow.Author.Needs.{needs}
@@ -10,8 +10,8 @@ use mir.Syntax.{w64}
 use mir.ValLaws.{toZ-ofZ}
 use Rattle.theory.proofs.Greater.{greater-first, greater-second}
 use Rattle.walks.proofs.Held.{own-order}
-use Rattle.walks.proofs.raise.Statement.{statement}
-use Rattle.walks.proofs.raise.Tie as tie
+use Rattle.walks.proofs.lift.Statement.{statement}
+use Rattle.walks.proofs.lift.Tie as tie
 
 mul-if1 : tie.Need-mul-if1
 mul-if1 c = search needs
@@ -42,7 +42,7 @@ returns-2 c =
     let kept : ltZ entry (start .args .q) ≡ false = own-order entry (start .args .q) false (record { sfits = c .before .if12 .given }) (start .fits .q) (c .if1 .left) in
     sym (ap (λ (x : ℤ). set (start .args .best .now) (start .args .j) x) (greater-first entry (start .args .q) kept) ∙ set-getD (start .args .best .now) (start .args .j) (pos 0))
 
-pub raise-spec : {M : Type 1} → statement M
-raise-spec =
+pub lift-spec : {M : Type 1} → statement M
+lift-spec =
     tie.close
     (tie.spec mul-if1 slice-copy-out-if1 mul-q slice-set-from-q same-length returns returns-2)
