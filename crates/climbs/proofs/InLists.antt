@@ -5,9 +5,9 @@ use mathlib.Core.List.{List}
 use native.Mathlib.Omega.{arith}
 use lib.Dec.{T}
 use lib.ListN.{length, getD, take}
-use lib.Seq.{getD-take}
+use lib.Seq.{getD-take, length-take-le}
 use Rattle.theory.specs.Row.{Row, rowAt}
-use Rattle.theory.specs.Lists.{rowsOf, Shaped}
+use Rattle.theory.specs.Lists.{rowsOf, Shaped, ForEach}
 use Rattle.theory.proofs.RowsOf.{rows-of-length, row-of-lists}
 use Rattle.theory.proofs.At.{StandsIn, stands-in, each-at, ordered-at}
 use Rattle.climbs.specs.Ranking.{aboveBy, rankingBy}
@@ -29,6 +29,13 @@ module _ (cs ds ts : List ℕ) (shaped : Shaped cs ds ts) where
 
   pub in-lists : {k : ℕ} → k < length (rowsOf cs ds ts) → k < length cs
   in-lists h = omega (arith, rows-of-length cs ds ts (shaped .as-many-deadlines) (shaped .as-many-periods))
+
+  -- the front of an array of 24 as one number for each row
+  pub front-for-each : (Right : ℕ → ℕ → Type 0) (numbers : List ℕ) → length numbers ≡ 24 → ((k : ℕ) → k < length cs → Right k (getD numbers k 0)) → ForEach (rowsOf cs ds ts) Right (take (length cs) numbers)
+  front-for-each Right numbers long right = record {
+    one-each = length-take-le (length cs) numbers (omega (arith, long, shaped .no-25th)) ∙ sym (rows-of-length cs ds ts (shaped .as-many-deadlines) (shaped .as-many-periods));
+    right = λ k h. subst (Right k) (sym (getD-take (length cs) numbers k 0 (in-lists h))) (right k (in-lists h));
+  }
 
   -- the row at a place by rank
   abbrev pub ranked : ℕ → ℕ

@@ -1,4 +1,4 @@
--- A list service on bytes, from its answer on the numbers that they are.
+-- A list service on bytes, from what it returns on the numbers that they are.
 use mathlib.Core.Path.{_≡_, refl, sym, ap, _∙_}
 use Prim.Native.Nat.{ℕ, _%_, _≤_}
 use mathlib.Core.Logic.{_⊎_, inl, inr}
@@ -6,15 +6,14 @@ use mathlib.Core.List.{List, [], _∷_, _++_, flatMap}
 use native.Mathlib.Omega.{arith}
 use lib.ListN.{length, take, length-take}
 use lib.Seq.{take-append-le}
-use Rattle.answers.specs.declared.Answer.{Answer}
-use Rattle.answers.specs.declared.Answer.the-variants.{Accepted, RowsOutOfRange}
-use Rattle.answers.specs.Answer.{numberOf}
+use Rattle.theory.specs.Returned.{Returned, returned}
 use Rattle.theory.specs.Row.{Row}
 use Rattle.theory.specs.Lists.{filled, Answered, rows-out-of-range}
 use Rattle.theory.proofs.Tests.{equal-or-not}
-use Rattle.records.specs.Number.{bigEndianFrom, fourBytes}
+use Rattle.records.specs.Number.{fourBytes}
 use Rattle.records.specs.ListBytes.{numbersIn, bytesOf, Fours, BytesAnswered, not-fours, as-numbers}
-use Rattle.records.proofs.Number.{AllBelow, all-below-drop, four-bytes-read-back}
+use Rattle.records.proofs.Number.{AllBelow, all-below-drop}
+use Rattle.records.proofs.ListBytes.{number-first, kept}
 use Rattle.entries.specs.Lists.{RowBytes, AnsweredInBytes}
 use Rattle.entries.proofs.Cut.{CutAnswered, refused-alike, accepted-alike}
 
@@ -33,15 +32,15 @@ front-filled (n ∷ numbers) (a ∷ (b ∷ (c ∷ (d ∷ bytes)))) inside below 
     ∙ sym (number-first n a b c d (bytesOf numbers) bytes)
 
 -- with answer lists as bytes, a service answers on rows as numbers as it does on the bytes that these are
-module _ {Allowance : List Row → ℕ → ℕ → Type 0} {responses allowances : List ℕ} {answer : Answer} {responses-after allowances-after : List ℕ} where
+module _ {Allowance : List Row → ℕ → ℕ → Type 0} {responses allowances : List ℕ} {returns : Returned} {responses-after allowances-after : List ℕ} where
   pub in-bytes-answered : (cs ds ts : List ℕ) {Cs Ds Ts : List ℕ} → Fours cs × Fours ds × Fours ts
       → Cs ≡ numbersIn cs
       → Ds ≡ numbersIn ds
       → Ts ≡ numbersIn ts
-      → AnsweredInBytes Allowance Cs Ds Ts responses allowances answer responses-after allowances-after
-      → BytesAnswered Allowance cs ds ts responses allowances answer responses-after allowances-after
+      → AnsweredInBytes Allowance Cs Ds Ts responses allowances returns responses-after allowances-after
+      → BytesAnswered Allowance cs ds ts responses allowances returns responses-after allowances-after
   in-bytes-answered cs ds ts fours are-c are-d are-t bytes =
-      rw (bytes .responses-are, bytes .allowances-are) (as-numbers answer (bytes .Rs) (bytes .As) fours (rw (are-c, are-d, are-t) at (bytes .answered)))
+      rw (bytes .responses-are, bytes .allowances-are) (as-numbers returns (bytes .Rs) (bytes .As) fours (rw (are-c, are-d, are-t) at (bytes .answered)))
 
 module _
     {Allowance : List Row → ℕ → ℕ → Type 0}
@@ -49,8 +48,8 @@ module _
     (responses-below : AllBelow 256 responses)
     (allowances-below : AllBelow 256 allowances) where
   -- a refusal on the numbers keeps the bytes
-  refused-in-bytes : {cs ds ts : List ℕ} {answer : Answer} → Answered Allowance cs ds ts (numbersIn responses) (numbersIn allowances) answer (numbersIn responses) (numbersIn allowances)
-      → AnsweredInBytes Allowance cs ds ts responses allowances answer responses allowances
+  refused-in-bytes : {cs ds ts : List ℕ} {returns : Returned} → Answered Allowance cs ds ts (numbersIn responses) (numbersIn allowances) returns (numbersIn responses) (numbersIn allowances)
+      → AnsweredInBytes Allowance cs ds ts responses allowances returns responses allowances
   refused-in-bytes refused = record {
     Rs = numbersIn responses;
     As = numbersIn allowances;
@@ -60,18 +59,18 @@ module _
   }
 
   -- byte strings that are no rows
-  pub no-rows-answered : (cs ds ts : List ℕ) → (RowBytes cs ds ts → ⊥) → BytesAnswered Allowance cs ds ts responses allowances RowsOutOfRange responses allowances
+  pub no-rows-answered : (cs ds ts : List ℕ) → (RowBytes cs ds ts → ⊥) → BytesAnswered Allowance cs ds ts responses allowances (returned 3 0) responses allowances
   no-rows-answered cs ds ts none = go (equal-or-not (length cs % 4) 0) (equal-or-not (length ds % 4) 0) (equal-or-not (length ts % 4) 0)
     where
-      go : Fours cs ⊎ (Fours cs → ⊥) → Fours ds ⊎ (Fours ds → ⊥) → Fours ts ⊎ (Fours ts → ⊥) → BytesAnswered Allowance cs ds ts responses allowances RowsOutOfRange responses allowances
+      go : Fours cs ⊎ (Fours cs → ⊥) → Fours ds ⊎ (Fours ds → ⊥) → Fours ts ⊎ (Fours ts → ⊥) → BytesAnswered Allowance cs ds ts responses allowances (returned 3 0) responses allowances
       go (inl c) (inl d) (inl t) = in-bytes-answered cs ds ts (c, d, t) refl refl refl (refused-in-bytes (rows-out-of-range (λ shaped. none (record { fours = (c, d, t); shaped = shaped }))))
       go (inr n) d t = not-fours (λ fours. n (fours .0))
       go (inl c) (inr n) t = not-fours (λ fours. n (fours .1))
       go (inl c) (inl d) (inr n) = not-fours (λ fours. n (fours .2))
 
   -- the service's result on answer lists that are cut to 24 numbers
-  module _ {cs ds ts : List ℕ} {answer : Answer} {Rs As : List ℕ} (cut : CutAnswered Allowance cs ds ts (numbersIn responses) (numbersIn allowances) answer Rs As) where
-    pub cut-refused : (numberOf answer ≡ 0 → ⊥) → AnsweredInBytes Allowance cs ds ts responses allowances answer responses allowances
+  module _ {cs ds ts : List ℕ} {returns : Returned} {Rs As : List ℕ} (cut : CutAnswered Allowance cs ds ts (numbersIn responses) (numbersIn allowances) returns Rs As) where
+    pub cut-refused : (returns .number ≡ 0 → ⊥) → AnsweredInBytes Allowance cs ds ts responses allowances returns responses allowances
     cut-refused refused = refused-in-bytes (refused-alike cut refused)
 
     -- numbers at the front of an array that was lent in part, and as many at the front of the bytes
@@ -81,10 +80,10 @@ module _
         ap (λ (l : List ℕ). filled (bytesOf l) bytes) (take-append-le (length cs) numbers rest inside)
         ∙ sym (front-filled (take (length cs) numbers) bytes (omega (arith, length-take (length cs) numbers)) below)
 
-    pub cut-accepted : {responses-after allowances-after : List ℕ} (rest others : List ℕ) → numberOf answer ≡ 0
+    pub cut-accepted : {responses-after allowances-after : List ℕ} (rest others : List ℕ) → returns .number ≡ 0
         → responses-after ≡ filled (bytesOf (take (length cs) (Rs ++ rest))) responses
         → allowances-after ≡ filled (bytesOf (take (length cs) (As ++ others))) allowances
-        → AnsweredInBytes Allowance cs ds ts responses allowances Accepted responses-after allowances-after
+        → AnsweredInBytes Allowance cs ds ts responses allowances (returned 0 0) responses-after allowances-after
     cut-accepted rest others none responses-are allowances-are =
         let alike = accepted-alike cut none in
         record {

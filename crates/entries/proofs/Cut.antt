@@ -6,26 +6,24 @@ use mathlib.Core.List.{List}
 use native.Mathlib.Omega.{arith}
 use lib.ListN.{length, take, drop}
 use lib.Seq.{take-at}
-use Rattle.answers.specs.declared.Answer.{Answer}
-use Rattle.answers.specs.declared.Answer.the-variants.{Accepted}
-use Rattle.answers.specs.Answer.{numberOf}
+use Rattle.theory.specs.Returned.{Returned, returned}
 use Rattle.theory.specs.Row.{Row}
 use Rattle.theory.specs.Lists.{Shaped, filled, Answered, rows-out-of-range, row-breaks-limits, output-too-short, row-misses, accepted}
 use Rattle.theory.proofs.RowsOf.{rows-of-length}
 
 -- the service's result on the lists that are cut
-pub record CutAnswered (Allowance : List Row → ℕ → ℕ → Type 0) (cs ds ts responses allowances : List ℕ) (answer : Answer) (Rs As : List ℕ) : Type 0 where
+pub record CutAnswered (Allowance : List Row → ℕ → ℕ → Type 0) (cs ds ts responses allowances : List ℕ) (returns : Returned) (Rs As : List ℕ) : Type 0 where
   pub cut-responses : List ℕ
   pub cut-allowances : List ℕ
   pub responses-cut : length cut-responses ≡ min 24 (length responses)
   pub allowances-cut : length cut-allowances ≡ min 24 (length allowances)
   pub responses-kept : length Rs ≡ length cut-responses
   pub allowances-kept : length As ≡ length cut-allowances
-  pub answered : Answered Allowance cs ds ts cut-responses cut-allowances answer Rs As
+  pub answered : Answered Allowance cs ds ts cut-responses cut-allowances returns Rs As
 
 -- an accepted call on the lists themselves, from the numbers that it left there: each list has a place for each row
 pub record AcceptedAlike (Allowance : List Row → ℕ → ℕ → Type 0) (cs ds ts responses allowances Rs As : List ℕ) : Type 0 where
-  pub answered : Answered Allowance cs ds ts responses allowances Accepted (filled (take (length cs) Rs) responses) (filled (take (length cs) As) allowances)
+  pub answered : Answered Allowance cs ds ts responses allowances (returned 0 0) (filled (take (length cs) Rs) responses) (filled (take (length cs) As) allowances)
   pub no-25th : length cs ≤ 24
   pub responses-inside : length cs ≤ length responses
   pub allowances-inside : length cs ≤ length allowances
@@ -33,10 +31,10 @@ pub record AcceptedAlike (Allowance : List Row → ℕ → ℕ → Type 0) (cs d
 module _
     {Allowance : List Row → ℕ → ℕ → Type 0}
     {cs ds ts responses allowances : List ℕ}
-    {answer : Answer}
+    {returns : Returned}
     {Rs As : List ℕ}
-    (cut : CutAnswered Allowance cs ds ts responses allowances answer Rs As) where
-  abbrev OnCut : Answer → List ℕ → List ℕ → Type 0
+    (cut : CutAnswered Allowance cs ds ts responses allowances returns Rs As) where
+  abbrev OnCut : Returned → List ℕ → List ℕ → Type 0
   OnCut = Answered Allowance cs ds ts (cut .cut-responses) (cut .cut-allowances)
 
   too-short : Shaped cs ds ts → (length (cut .cut-responses) < length cs) ⊎ (length (cut .cut-allowances) < length cs) → (length responses < length cs) ⊎ (length allowances < length cs)
@@ -44,10 +42,10 @@ module _
   too-short shaped (inr h) = inr (omega arith)
 
   -- a refusal there is one on the lists themselves
-  pub refused-alike : (numberOf answer ≡ 0 → ⊥) → Answered Allowance cs ds ts responses allowances answer responses allowances
+  pub refused-alike : (returns .number ≡ 0 → ⊥) → Answered Allowance cs ds ts responses allowances returns responses allowances
   refused-alike = go (cut .answered)
     where
-      go : {answer : Answer} {Rs As : List ℕ} → OnCut answer Rs As → (numberOf answer ≡ 0 → ⊥) → Answered Allowance cs ds ts responses allowances answer responses allowances
+      go : {returns : Returned} {Rs As : List ℕ} → OnCut returns Rs As → (returns .number ≡ 0 → ⊥) → Answered Allowance cs ds ts responses allowances returns responses allowances
       go (rows-out-of-range n) refused = rows-out-of-range n
       go (row-breaks-limits k s f) refused = row-breaks-limits k s f
       go (output-too-short s w o) refused = output-too-short s w (too-short s o)
@@ -55,10 +53,10 @@ module _
       go (accepted Rs As s w r a all is-R is-A) refused = absurd (refused refl)
 
   -- an accepted call there leaves the numbers for the lists themselves
-  pub accepted-alike : numberOf answer ≡ 0 → AcceptedAlike Allowance cs ds ts responses allowances Rs As
+  pub accepted-alike : returns .number ≡ 0 → AcceptedAlike Allowance cs ds ts responses allowances Rs As
   accepted-alike = go (cut .answered)
     where
-      go : {answer : Answer} {Rs As : List ℕ} → OnCut answer Rs As → numberOf answer ≡ 0 → AcceptedAlike Allowance cs ds ts responses allowances Rs As
+      go : {returns : Returned} {Rs As : List ℕ} → OnCut returns Rs As → returns .number ≡ 0 → AcceptedAlike Allowance cs ds ts responses allowances Rs As
       go (rows-out-of-range n) none = absurd (omega arith)
       go (row-breaks-limits k s f) none = absurd (omega arith)
       go (output-too-short s w o) none = absurd (omega arith)

@@ -1,11 +1,10 @@
 -- Each entry's promise determines the number, the row and every lent byte; the set entry and the point entry promise the same.
-use mathlib.Core.Path.{_≡_, sym, ap, _∙_}
+use mathlib.Core.Path.{_≡_, ap}
 use Prim.Native.Nat.{ℕ}
 use mathlib.Core.Logic.{_↔_}
 use mathlib.Core.List.{List}
 use lib.IntN.{pos, natAbs}
-use Rattle.answers.specs.declared.Answer.{Answer}
-use Rattle.answers.specs.Answer.{numberOf, rowOf}
+use Rattle.theory.specs.Returned.{Returned, returned}
 use Rattle.theory.specs.Row.{Row}
 use Rattle.theory.specs.Allowance.{IsAllowance}
 use Rattle.theory.specs.Points.{IsPointAllowance}
@@ -18,11 +17,11 @@ use Rattle.placement.proofs.Fit.{allowance-fit-is-rule}
 use Rattle.records.specs.ListBytes.{numbersIn, BytesAnswered, not-fours, as-numbers}
 use Rattle.records.proofs.BytesAnswered.{bytes-answered-unique}
 use Rattle.service.proofs.Table.{table-answered-unique}
-use Rattle.entries.specs.Entry.{Returned, TableReturned, ListsReturned, SetReturned, PointReturned}
+use Rattle.entries.specs.Entry.{TableReturned, ListsReturned, SetReturned, PointReturned}
 
--- one answer has one number and one row
-same-answer-returned : {P Q : Answer → Type 0} {number other row other-row : ℕ} (p : Returned P number row) (q : Returned Q other other-row) → p .answer ≡ q .answer → (number ≡ other) × (row ≡ other-row)
-same-answer-returned p q same = (p .its-number ∙ ap numberOf same ∙ sym (q .its-number), p .its-row ∙ ap rowOf same ∙ sym (q .its-row))
+-- what is returned has one number and one row
+number-and-row : {number other row other-row : ℕ} → returned number row ≡ returned other other-row → (number ≡ other) × (row ≡ other-row)
+number-and-row same = (ap (λ (r : Returned). r .number) same, ap (λ (r : Returned). r .row) same)
 
 -- THE TABLE ENTRY'S RESULT IS DETERMINED
 pub table-returned-unique : {table report : List ℕ} {number other row other-row : ℕ} {first second : List ℕ}
@@ -30,9 +29,9 @@ pub table-returned-unique : {table report : List ℕ} {number other row other-ro
     → TableReturned table report other other-row second
     → (number ≡ other) × (row ≡ other-row) × (first ≡ second)
 table-returned-unique {table} {report} p q =
-    let same = table-answered-unique allowanceFit allowance-fit-is-rule table report (p .answered) (q .answered) in
-    let returned = same-answer-returned p q (same .same-answer) in
-    (returned .0, returned .1, same .same-report)
+    let same = table-answered-unique allowanceFit allowance-fit-is-rule table report p q in
+    let numbers = number-and-row (same .same-answer) in
+    (numbers .0, numbers .1, same .same-report)
 
 module _ {cs ds ts responses allowances : List ℕ} {number other row other-row : ℕ} {rs ss ls ms : List ℕ} where
   -- so is that of an entry on lists, for any meaning of an allowance that determines it
@@ -42,9 +41,9 @@ module _ {cs ds ts responses allowances : List ℕ} {number other row other-row 
       → ListsReturned Allowance cs ds ts responses allowances other other-row ss ms
       → (number ≡ other) × (row ≡ other-row) × (rs ≡ ss) × (ls ≡ ms)
   lists-returned-unique Allowance determined p q =
-      let same = bytes-answered-unique Allowance determined cs ds ts responses allowances (p .answered) (q .answered) in
-      let returned = same-answer-returned p q (same .same-answer) in
-      (returned .0, returned .1, same .same-responses, same .same-allowances)
+      let same = bytes-answered-unique Allowance determined cs ds ts responses allowances p q in
+      let numbers = number-and-row (same .same-answer) in
+      (numbers .0, numbers .1, same .same-responses, same .same-allowances)
 
   -- THE SET ENTRY'S RESULT IS DETERMINED
   pub set-returned-unique : SetReturned cs ds ts responses allowances number row rs ls → SetReturned cs ds ts responses allowances other other-row ss ms
@@ -56,24 +55,21 @@ module _ {cs ds ts responses allowances : List ℕ} {number other row other-row 
       → (number ≡ other) × (row ≡ other-row) × (rs ≡ ss) × (ls ≡ ms)
   point-returned-unique = lists-returned-unique (λ rows i a. IsPointAllowance rows i (pos a)) (λ rows i a b p q. ap natAbs (point-allowance-unique rows i (pos a) (pos b) p q))
 
--- where one meaning of an allowance has the answers of another on numbers, it has them on bytes
+-- where one meaning of an allowance has the results of another on numbers, it has them on bytes
 module _
     (First Second : List Row → ℕ → ℕ → Type 0)
     (cs ds ts responses allowances : List ℕ)
-    (carries : (answer : Answer) (Rs As : List ℕ)
-    → Answered First (numbersIn cs) (numbersIn ds) (numbersIn ts) (numbersIn responses) (numbersIn allowances) answer Rs As
-    → Answered Second (numbersIn cs) (numbersIn ds) (numbersIn ts) (numbersIn responses) (numbersIn allowances) answer Rs As) where
-  bytes-carry : {answer : Answer} {rs ls : List ℕ} → BytesAnswered First cs ds ts responses allowances answer rs ls → BytesAnswered Second cs ds ts responses allowances answer rs ls
+    (carries : (returns : Returned) (Rs As : List ℕ)
+    → Answered First (numbersIn cs) (numbersIn ds) (numbersIn ts) (numbersIn responses) (numbersIn allowances) returns Rs As
+    → Answered Second (numbersIn cs) (numbersIn ds) (numbersIn ts) (numbersIn responses) (numbersIn allowances) returns Rs As) where
+  bytes-carry : {returns : Returned} {rs ls : List ℕ} → BytesAnswered First cs ds ts responses allowances returns rs ls → BytesAnswered Second cs ds ts responses allowances returns rs ls
   bytes-carry (not-fours n) = not-fours n
-  bytes-carry (as-numbers answer Rs As fours p) = as-numbers answer Rs As fours (carries answer Rs As p)
-
-  returned-carry : {number row : ℕ} {rs ls : List ℕ} → ListsReturned First cs ds ts responses allowances number row rs ls → ListsReturned Second cs ds ts responses allowances number row rs ls
-  returned-carry p = record { answer = p .answer; its-number = p .its-number; its-row = p .its-row; answered = bytes-carry (p .answered) }
+  bytes-carry (as-numbers returns Rs As fours p) = as-numbers returns Rs As fours (carries returns Rs As p)
 
 -- DEMAND 3 ON THE ENTRIES: what one of the two on lists promises the other does
 pub entries-agree : (cs ds ts responses allowances : List ℕ) {number row : ℕ} {rs ls : List ℕ}
     → SetReturned cs ds ts responses allowances number row rs ls ↔ PointReturned cs ds ts responses allowances number row rs ls
 entries-agree cs ds ts responses allowances = (
-  returned-carry IsAllowance (λ rows i a. IsPointAllowance rows i (pos a)) cs ds ts responses allowances (λ answer Rs As p. services-agree (numbersIn cs) (numbersIn ds) (numbersIn ts) (numbersIn responses) (numbersIn allowances) .0 p),
-  returned-carry (λ rows i a. IsPointAllowance rows i (pos a)) IsAllowance cs ds ts responses allowances (λ answer Rs As p. services-agree (numbersIn cs) (numbersIn ds) (numbersIn ts) (numbersIn responses) (numbersIn allowances) .1 p),
+  bytes-carry IsAllowance (λ rows i a. IsPointAllowance rows i (pos a)) cs ds ts responses allowances (λ returns Rs As p. services-agree (numbersIn cs) (numbersIn ds) (numbersIn ts) (numbersIn responses) (numbersIn allowances) .0 p),
+  bytes-carry (λ rows i a. IsPointAllowance rows i (pos a)) IsAllowance cs ds ts responses allowances (λ returns Rs As p. services-agree (numbersIn cs) (numbersIn ds) (numbersIn ts) (numbersIn responses) (numbersIn allowances) .1 p),
 )

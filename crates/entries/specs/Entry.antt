@@ -1,10 +1,8 @@
--- What the three entries for the front end in C promise: the number and the row of the service's answer, and the lent bytes at the end.
-use mathlib.Core.Path.{_≡_}
+-- What the entries for the front end in C promise: the number and the row that the service returns, and the lent bytes at the end.
 use Prim.Native.Nat.{ℕ}
 use mathlib.Core.List.{List}
 use lib.IntN.{pos}
-use Rattle.answers.specs.declared.Answer.{Answer}
-use Rattle.answers.specs.Answer.{numberOf, rowOf}
+use Rattle.theory.specs.Returned.{returned}
 use Rattle.theory.specs.Row.{Row}
 use Rattle.theory.specs.Allowance.{IsAllowance}
 use Rattle.theory.specs.Points.{IsPointAllowance}
@@ -12,21 +10,14 @@ use Rattle.placement.specs.Choice.{allowanceFit}
 use Rattle.records.specs.ListBytes.{BytesAnswered}
 use Rattle.service.specs.Table.{TableAnswered}
 
--- a number and a row are those of an answer that a service gives
-pub record Returned (Answered : Answer → Type 0) (number row : ℕ) : Type 0 where
-  pub answer : Answer
-  pub its-number : number ≡ numberOf answer
-  pub its-row : row ≡ rowOf answer
-  pub answered : Answered answer
-
 -- the table entry on table bytes and a lent report: its number, its row, and the report at the end
 abbrev pub TableReturned : List ℕ → List ℕ → ℕ → ℕ → List ℕ → Type 0
-TableReturned table report number row report-after = Returned (λ answer. TableAnswered allowanceFit table report answer report-after) number row
+TableReturned table report number row report-after = TableAnswered allowanceFit table report (returned number row) report-after
 
 -- an entry on lists as bytes: its number, its row, and both lent byte strings at the end
 abbrev pub ListsReturned : (List Row → ℕ → ℕ → Type 0) → List ℕ → List ℕ → List ℕ → List ℕ → List ℕ → ℕ → ℕ → List ℕ → List ℕ → Type 0
 ListsReturned Allowance cs ds ts responses allowances number row responses-after allowances-after =
-    Returned (λ answer. BytesAnswered Allowance cs ds ts responses allowances answer responses-after allowances-after) number row
+    BytesAnswered Allowance cs ds ts responses allowances (returned number row) responses-after allowances-after
 
 -- the set entry: allowances by the definition
 abbrev pub SetReturned : List ℕ → List ℕ → List ℕ → List ℕ → List ℕ → ℕ → ℕ → List ℕ → List ℕ → Type 0

@@ -3,7 +3,7 @@ use mathlib.Core.Path.{_≡_}
 use Prim.Native.Nat.{ℕ}
 use mathlib.Core.List.{List}
 use lib.IntN.{pos}
-use Rattle.answers.specs.declared.Answer.{Answer}
+use Rattle.theory.specs.Returned.{Returned}
 use Rattle.theory.specs.Row.{Row}
 use Rattle.theory.specs.Allowance.{IsAllowance}
 use Rattle.theory.specs.Points.{IsPointAllowance}
@@ -22,10 +22,10 @@ abbrev pub allowanceBy : AllowancesBy → List Row → ℕ → ℕ → Type 0
 allowanceBy Trial = IsAllowance
 allowanceBy Points = λ rows i a. IsPointAllowance rows i (pos a)
 
--- what a service answers on rows as numbers, with its two lent lists as bytes, and these bytes at the end
-pub record AnsweredInBytes (Allowance : List Row → ℕ → ℕ → Type 0) (cs ds ts responses allowances : List ℕ) (answer : Answer) (responses-after allowances-after : List ℕ) : Type 0 where
+-- what a service returns on rows as numbers, with its two lent lists as bytes, and these bytes at the end
+pub record AnsweredInBytes (Allowance : List Row → ℕ → ℕ → Type 0) (cs ds ts responses allowances : List ℕ) (returns : Returned) (responses-after allowances-after : List ℕ) : Type 0 where
   pub Rs : List ℕ
   pub As : List ℕ
-  pub answered : Answered Allowance cs ds ts (numbersIn responses) (numbersIn allowances) answer Rs As
+  pub answered : Answered Allowance cs ds ts (numbersIn responses) (numbersIn allowances) returns Rs As
   pub responses-are : responses-after ≡ filled (bytesOf Rs) responses
   pub allowances-are : allowances-after ≡ filled (bytesOf As) allowances

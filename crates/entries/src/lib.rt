@@ -4,11 +4,11 @@ ghost use mathlib.Core.Path.{_≡_};
 ghost use mathlib.Core.Bool.{true};
 ghost use mathlib.Core.Logic.{_↔_};
 ghost use Prim.Native.Nat.{_/_, min};
-ghost use Rattle.answers.specs.Answer.{numberOf, rowOf};
+ghost use Rattle.answers.specs.Answer.{returnedBy, numberOf, rowOf};
 ghost use Rattle.theory.specs.Lists.{Answered};
 ghost use Rattle.records.specs.ListBytes.{BytesAnswered};
 ghost use Rattle.entries.specs.Lists.{RowBytes, allowanceBy, AnsweredInBytes};
-ghost use Rattle.entries.specs.Entry.{TableReturned, SetReturned, PointReturned};
+ghost use Rattle.entries.specs.Entry.{TableReturned, ListsReturned, SetReturned, PointReturned};
 use answers::Answer;
 
 // An answer as C takes it: its number and its row.
@@ -72,7 +72,7 @@ fn answer_lists(
     responses: &mut [u32],
     allowances: &mut [u32],
 ) -> Answer
-    ensures { λ r. ⌜ Answered (allowanceBy by) (now (c .entry)) (now (d .entry)) (now (t .entry)) (now (responses .entry)) (now (allowances .entry)) r (now (responses .exit)) (now (allowances .exit)) ⌝ }
+    ensures { λ r. ⌜ Answered (allowanceBy by) (now (c .entry)) (now (d .entry)) (now (t .entry)) (now (responses .entry)) (now (allowances .entry)) (returnedBy r) (now (responses .exit)) (now (allowances .exit)) ⌝ }
 {
     match by {
         AllowancesBy::Trial => sets::set_service(c, d, t, responses, allowances),
@@ -89,7 +89,7 @@ fn answer_in_bytes(
     responses: &mut [u8],
     allowances: &mut [u8],
 ) -> Answer
-    ensures { λ r. ⌜ AnsweredInBytes (allowanceBy by) (now (c .entry)) (now (d .entry)) (now (t .entry)) (now (responses .entry)) (now (allowances .entry)) r (now (responses .exit)) (now (allowances .exit)) ⌝ }
+    ensures { λ r. ⌜ AnsweredInBytes (allowanceBy by) (now (c .entry)) (now (d .entry)) (now (t .entry)) (now (responses .entry)) (now (allowances .entry)) (returnedBy r) (now (responses .exit)) (now (allowances .exit)) ⌝ }
 {
     let mut response = [0u32; 24];
     let mut allowance = [0u32; 24];
@@ -114,7 +114,7 @@ fn answer_bytes(
     responses: &mut [u8],
     allowances: &mut [u8],
 ) -> Answer
-    ensures { λ r. ⌜ BytesAnswered (allowanceBy by) (now (c .entry)) (now (d .entry)) (now (t .entry)) (now (responses .entry)) (now (allowances .entry)) r (now (responses .exit)) (now (allowances .exit)) ⌝ }
+    ensures { λ r. ⌜ BytesAnswered (allowanceBy by) (now (c .entry)) (now (d .entry)) (now (t .entry)) (now (responses .entry)) (now (allowances .entry)) (returnedBy r) (now (responses .exit)) (now (allowances .exit)) ⌝ }
 {
     if !are_rows(c, d, t) {
         return Answer::RowsOutOfRange;
@@ -124,6 +124,20 @@ fn answer_bytes(
     let ds = numbers::read_numbers(d);
     let ts = numbers::read_numbers(t);
     answer_in_bytes(by, &cs[..n], &ds[..n], &ts[..n], responses, allowances)
+}
+
+// The same with the answer as C takes it.
+fn answer_for_c(
+    by: AllowancesBy,
+    c: &[u8],
+    d: &[u8],
+    t: &[u8],
+    responses: &mut [u8],
+    allowances: &mut [u8],
+) -> EntryAnswer
+    ensures { λ r. ⌜ ListsReturned (allowanceBy by) (now (c .entry)) (now (d .entry)) (now (t .entry)) (now (responses .entry)) (now (allowances .entry)) (r .number) (r .row) (now (responses .exit)) (now (allowances .exit)) ⌝ }
+{
+    entry_answer(answer_bytes(by, c, d, t, responses, allowances))
 }
 
 // The table service.
@@ -145,7 +159,7 @@ pub extern "C" fn hibalunduk_set(
 ) -> EntryAnswer
     ensures { λ r. ⌜ SetReturned (now (c .entry)) (now (d .entry)) (now (t .entry)) (now (responses .entry)) (now (allowances .entry)) (r .number) (r .row) (now (responses .exit)) (now (allowances .exit)) ⌝ }
 {
-    entry_answer(answer_bytes(AllowancesBy::Trial, c, d, t, responses, allowances))
+    answer_for_c(AllowancesBy::Trial, c, d, t, responses, allowances)
 }
 
 // The point service.
@@ -159,5 +173,5 @@ pub extern "C" fn hibalunduk_point(
 ) -> EntryAnswer
     ensures { λ r. ⌜ PointReturned (now (c .entry)) (now (d .entry)) (now (t .entry)) (now (responses .entry)) (now (allowances .entry)) (r .number) (r .row) (now (responses .exit)) (now (allowances .exit)) ⌝ }
 {
-    entry_answer(answer_bytes(AllowancesBy::Points, c, d, t, responses, allowances))
+    answer_for_c(AllowancesBy::Points, c, d, t, responses, allowances)
 }

@@ -1,23 +1,20 @@
 -- What is found for rows that all meet: their response times, and their allowances by either way.
-use mathlib.Core.Path.{_≡_, sym}
 use Prim.Native.Nat.{ℕ, _<_}
 use mathlib.Core.List.{List}
-use native.Mathlib.Omega.{arith}
 use lib.IntN.{pos}
-use lib.ListN.{length, getD, take}
+use lib.ListN.{length, getD}
 use Rattle.theory.specs.Row.{AllWithin}
 use Rattle.theory.specs.Response.{AllMeet}
 use Rattle.theory.specs.Allowance.{IsAllowance}
 use Rattle.theory.specs.Points.{IsPointAllowance}
-use Rattle.theory.specs.Lists.{Shaped, rowsOf, ForEach}
-use Rattle.theory.proofs.RowsOf.{rows-of-length}
+use Rattle.theory.specs.Lists.{Shaped, rowsOf}
 use Rattle.theory.proofs.Verdict.{within-steady}
 use Rattle.theory.proofs.Allowance.{allowance-of-points}
-use Rattle.climbs.proofs.InLists.{in-lists, in-rows}
+use Rattle.climbs.proofs.InLists.{in-rows}
 use Rattle.responses.specs.declared.Verdict.{Verdict}
 use Rattle.responses.specs.declared.Verdict.the-variants.{OnTime, Late}
 use Rattle.responses.specs.Verdict.{RespondsInTime, IsVerdict}
-use Rattle.sets.proofs.Front.{front-for-each}
+use Rattle.responses.proofs.Meeting.{all-in-time-meet}
 
 module _ (cs ds ts : List ℕ) (shaped : Shaped cs ds ts) where
   -- where all rows meet, the verdict is that they are on time
@@ -37,10 +34,5 @@ module _ (cs ds ts : List ℕ) (shaped : Shaped cs ds ts) where
       → IsAllowance (rowsOf cs ds ts) i (getD allowed i 0)
   allowances-of-points within response allowed in-time are i h =
       allowance-of-points (rowsOf cs ds ts) (within-steady (rowsOf cs ds ts) within) i (in-rows cs ds ts shaped h)
-      (λ k l. let r = in-time k (in-lists cs ds ts shaped l) in record { response = getD response k 0; is-response = r .is-response; by-deadline = r .by-deadline })
+      (all-in-time-meet cs ds ts response shaped in-time)
       (getD allowed i 0) (are i h)
-
-  -- arrays that have at their front a number for each row
-  pub core-front : (Right : ℕ → ℕ → Type 0) (numbers : List ℕ) → length numbers ≡ 24 → ((k : ℕ) → k < length cs → Right k (getD numbers k 0)) → ForEach (rowsOf cs ds ts) Right (take (length cs) numbers)
-  core-front Right numbers long =
-      front-for-each (rowsOf cs ds ts) Right numbers (length cs) (sym (rows-of-length cs ds ts (shaped .as-many-deadlines) (shaped .as-many-periods))) (omega (arith, long, shaped .no-25th))

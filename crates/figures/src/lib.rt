@@ -47,7 +47,7 @@ fn allowances_of(
             return tried.allowed;
         }
     }
-    sets::point_numbers(c, d, t, order, response)
+    points::allowances_by_points(c, d, t, order)
 }
 
 // Writes the response times and allowances of a core's rows, which all meet, to the rows' places.

@@ -5,8 +5,6 @@ use native.Mathlib.Omega.{arith}
 use mathlib.Core.List.{List, [], _∷_, _++_, append-assoc, append-nil}
 use lib.ListN.{length, getD, take, drop, length-append}
 use lib.Seq.{take-at, length-take-le}
-use Rattle.answers.specs.declared.Answer.{Answer}
-use Rattle.answers.specs.Answer.{numberOf, rowOf}
 use Rattle.placement.specs.Figures.{Figures}
 use Rattle.listing.specs.Listing.{ascii, headerLine, decimal, rowLine, rowLines, systemAllowance, listing, refusal}
 use Rattle.listing.proofs.RowLines.{linesFrom, lines-from-row, no-lines-left}
@@ -40,14 +38,14 @@ module _ {one two three four : List ℕ} where
   listing-written all w x y z = simp (z, y, x, w, append-assoc)
 
   -- the line of a refusal
-  pub refusal-written : (answer : Answer)
+  pub refusal-written : (number row : ℕ)
       → one ≡ ascii "refused "
-      → two ≡ one ++ (decimal (numberOf answer) ++ (32 ∷ []))
+      → two ≡ one ++ (decimal number ++ (32 ∷ []))
       → three ≡ two ++ ascii "row "
-      → four ≡ three ++ (decimal (rowOf answer) ++ (10 ∷ []))
-      → four ≡ refusal answer
+      → four ≡ three ++ (decimal row ++ (10 ∷ []))
+      → four ≡ refusal number row
   unfolding refusal ascii
-  refusal-written answer w x y z = simp (z, y, x, w, append-assoc)
+  refusal-written number row w x y z = simp (z, y, x, w, append-assoc)
 
 -- the lines of the rows, where those before row i stand written and those from row i on are left
 module _ (cores responses allowances front : List ℕ) (i : ℕ) {whole : List ℕ} (left : front ++ linesFrom cores responses allowances i ≡ whole) where

@@ -6,6 +6,7 @@ ghost use mathlib.Core.List.{[], _∷_, _++_};
 ghost use lib.Dec.{ltb};
 ghost use lib.ListN.{length, getD, take, drop};
 ghost use Rattle.theory.specs.Gather.{best};
+ghost use Rattle.answers.specs.Answer.{numberOf, rowOf};
 ghost use Rattle.placement.specs.Figures.{figuresFrom};
 ghost use Rattle.listing.specs.Listing.{decimal, rowLine, rowLines, listing, refusal};
 use answers::Answer;
@@ -109,7 +110,7 @@ pub fn write_listing(text: &mut [u8], core: &[u32], response: &[u32], allowance:
 // Writes the line of a refusal.
 pub fn write_refusal(text: &mut [u8], answer: Answer) -> usize
     requires { ⌜ 1102 ≤ length (now text) ⌝ }
-    ensures { λ r. ⌜ (take r (now (text .exit)) ≡ refusal answer) × (r ≤ 1102) ⌝ }
+    ensures { λ r. ⌜ (take r (now (text .exit)) ≡ refusal (numberOf answer) (rowOf answer)) × (r ≤ 1102) ⌝ }
 {
     let end = write_bytes(text, 0, b"refused ");
     let end = write_number(text, end, answers::number_of(answer), b' ');

@@ -7,9 +7,9 @@ use borrow.Author.Tests.{eqb-true, eqb-false}
 use Rattle.answers.specs.declared.Answer.{Answer}
 use Rattle.answers.specs.declared.Answer.the-variants.{Accepted, RecordsBroken, CoresOutOfRange, RowsOutOfRange, RowBreaksLimits, CountDiffers, NoCoreTakes, OutputTooShort, RowMisses}
 use Rattle.answers.specs.Answer.{numberOf}
-use Rattle.records.specs.Reading.{Reading, table, refused}
+use Rattle.records.specs.Reading.{Reading, table}
 use Rattle.reading.specs.declared.Read.{Read}
-use Rattle.reading.specs.Held.{heldRows, heldTable, Held, IsRead, refusal, whole}
+use Rattle.reading.specs.Held.{heldRows, heldTable, Held, refusedBy, IsRead, refusal, whole}
 use Rattle.reading.specs.Next.{endedWith}
 
 -- only Accepted has number 0
@@ -25,8 +25,8 @@ number-0-accepted OutputTooShort none = absurd (omega arith)
 number-0-accepted (RowMisses row) none = absurd (omega arith)
 
 -- a refusal is read
-pub refused-is-read : (reading : Reading) (read : Read) (answer : Answer) → read .answer ≡ answer → (numberOf answer ≡ 0 → ⊥) → reading ≡ refused answer → IsRead reading read
-refused-is-read reading read answer same not-0 is-refused = refusal (is-refused ∙ ap refused (sym same)) (λ none. not-0 (sym (ap numberOf same) ∙ none))
+pub refused-is-read : (reading : Reading) (read : Read) (answer : Answer) → read .answer ≡ answer → (numberOf answer ≡ 0 → ⊥) → reading ≡ refusedBy answer → IsRead reading read
+refused-is-read reading read answer same not-0 is-refused = refusal (is-refused ∙ ap refusedBy (sym same)) (λ none. not-0 (sym (ap numberOf same) ∙ none))
 
 -- a reading that ends with an answer behind the rows held is read
 pub ended-is-read :
@@ -47,6 +47,6 @@ read-accepted (refusal is-refused not-0) none = absurd (not-0 none)
 read-accepted (whole is-table accepted held) none = (is-table, held)
 
 -- any other has the refusal
-pub read-refused : {reading : Reading} {read : Read} → IsRead reading read → (numberOf (read .answer) ≡ 0 → ⊥) → reading ≡ refused (read .answer)
+pub read-refused : {reading : Reading} {read : Read} → IsRead reading read → (numberOf (read .answer) ≡ 0 → ⊥) → reading ≡ refusedBy (read .answer)
 read-refused (refusal is-refused not-0) refuses = is-refused
 read-refused (whole is-table accepted held) refuses = absurd (refuses (ap numberOf accepted))

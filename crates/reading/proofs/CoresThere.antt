@@ -7,23 +7,22 @@ use native.Mathlib.Omega.{arith}
 use lib.Dec.{leb, eqb}
 use lib.ListN.{length, getD, drop}
 use borrow.Author.Tests.{eq-eqb, ne-eqb, le-leb, leb-true}
-use Rattle.answers.specs.declared.Answer.the-variants.{RecordsBroken, CoresOutOfRange}
 use Rattle.theory.proofs.Limits.{both-pass}
 use Rattle.records.specs.Reading.{Reading, refused, readRows, readCores, readTable}
 
 -- bytes that are too few for a kind 1 record
-pub cores-cut : (bytes : List ℕ) → length bytes < 2 → readTable bytes ≡ refused RecordsBroken
+pub cores-cut : (bytes : List ℕ) → length bytes < 2 → readTable bytes ≡ refused 1 0
 unfolding readTable readCores
 cores-cut [] few = refl
 cores-cut (kind ∷ []) few = go (eqb kind 1)
   where
-    go : (is-first : Bool) → elim is-first as (λ b. Reading) [ true ↦ refused RecordsBroken | false ↦ refused RecordsBroken ] ≡ refused RecordsBroken
+    go : (is-first : Bool) → elim is-first as (λ b. Reading) [ true ↦ refused 1 0 | false ↦ refused 1 0 ] ≡ refused 1 0
     go true = refl
     go false = refl
 cores-cut (kind ∷ cores ∷ after) few = absurd (omega arith)
 
 -- another kind at the front
-pub no-cores : (bytes : List ℕ) → (getD bytes 0 0 ≡ 1 → ⊥) → readTable bytes ≡ refused RecordsBroken
+pub no-cores : (bytes : List ℕ) → (getD bytes 0 0 ≡ 1 → ⊥) → readTable bytes ≡ refused 1 0
 unfolding readTable
 no-cores [] other = refl
 no-cores (kind ∷ body) other = rw (ne-eqb kind 1 other, readTable)
@@ -37,11 +36,11 @@ cores-there (kind ∷ []) long first cores same = absurd (omega arith)
 cores-there (kind ∷ byte ∷ after) long first cores same = rw (eq-eqb kind 1 first, readTable) (ap (λ (number : ℕ). readCores (number ∷ after)) (sym same))
 
 module _ (bytes : List ℕ) (long : 2 ≤ length bytes) (first : getD bytes 0 0 ≡ 1) (cores : ℕ) (same : cores ≡ getD bytes 1 0) where
-  pub cores-out-of-range : (1 ≤ cores → cores ≤ 8 → ⊥) → readTable bytes ≡ refused CoresOutOfRange
+  pub cores-out-of-range : (1 ≤ cores → cores ≤ 8 → ⊥) → readTable bytes ≡ refused 2 0
   unfolding readCores
   cores-out-of-range out = cores-there bytes long first cores same ∙ go (leb 1 cores && leb cores 8) refl
     where
-      go : (in-range : Bool) → (leb 1 cores && leb cores 8) ≡ in-range → readCores (cores ∷ drop 2 bytes) ≡ refused CoresOutOfRange
+      go : (in-range : Bool) → (leb 1 cores && leb cores 8) ≡ in-range → readCores (cores ∷ drop 2 bytes) ≡ refused 2 0
       go true passes = let range = both-pass (leb 1 cores) (leb cores 8) passes in absurd (out (leb-true 1 cores (range .0)) (leb-true cores 8 (range .1)))
       go false fails = rw (fails, readCores)
 

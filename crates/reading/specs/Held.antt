@@ -3,8 +3,9 @@ use mathlib.Core.Path.{_≡_}
 use Prim.Native.Nat.{ℕ, _≤_}
 use mathlib.Core.List.{List}
 use lib.ListN.{length, take}
+use Rattle.answers.specs.declared.Answer.{Answer}
 use Rattle.answers.specs.declared.Answer.the-variants.{Accepted}
-use Rattle.answers.specs.Answer.{numberOf}
+use Rattle.answers.specs.Answer.{numberOf, rowOf}
 use Rattle.theory.specs.Row.{Row}
 use Rattle.theory.specs.Lists.{rowsOf}
 use Rattle.placement.specs.Core.{Table}
@@ -26,7 +27,11 @@ pub record Held (n : ℕ) (c d t : List ℕ) : Type 0 where
   pub d-long : length d ≡ 24
   pub t-long : length t ≡ 24
 
+-- the refusal that an answer stands for
+abbrev pub refusedBy : Answer → Reading
+refusedBy answer = refused (numberOf answer) (rowOf answer)
+
 -- what a byte string is read as: its refusal, or Accepted and its table
 pub data IsRead (reading : Reading) (read : Read) : Type 0 where
-  refusal : reading ≡ refused (read .answer) → (numberOf (read .answer) ≡ 0 → ⊥) → IsRead reading read
+  refusal : reading ≡ refusedBy (read .answer) → (numberOf (read .answer) ≡ 0 → ⊥) → IsRead reading read
   whole : reading ≡ table (heldTable read) → read .answer ≡ Accepted → Held (read .n) (read .c) (read .d) (read .t) → IsRead reading read

@@ -8,13 +8,14 @@ use lib.ListN.{length, drop}
 use Rattle.answers.specs.declared.Answer.{Answer}
 use Rattle.answers.specs.Answer.{numberOf}
 use Rattle.theory.specs.Row.{Row}
-use Rattle.records.specs.Reading.{Reading, table, refused, readCount, readRows}
+use Rattle.records.specs.Reading.{Reading, table, readCount, readRows}
 use Rattle.reading.specs.declared.Next.{Next}
 use Rattle.reading.specs.declared.Next.the-variants.{GoesOn, Ends}
+use Rattle.reading.specs.Held.{refusedBy}
 
 -- the reading that ends with an answer behind some rows: the table where it is Accepted, else the refusal
 unfoldable pub endedWith : Answer → ℕ → List Row → Reading
-endedWith answer cores rows = elim (eqb (numberOf answer) 0) [ true ↦ table (record { cores = cores; rows = rows }) | false ↦ refused answer ]
+endedWith answer cores rows = elim (eqb (numberOf answer) 0) [ true ↦ table (record { cores = cores; rows = rows }) | false ↦ refusedBy answer ]
 
 -- the answer to the body of a kind 4 record at a place, behind any n rows
 abbrev pub IsCount : List ℕ → ℕ → ℕ → Answer → Type 0

@@ -19,6 +19,7 @@ use Rattle.climbs.specs.Ranking.{aboveBy}
 use Rattle.climbs.proofs.ByRank.{above-of-lists, above-by-transitive, above-by-irreflexive}
 use Rattle.climbs.proofs.InLists.{in-rows, in-lists, ranked, ranked-in-lists, ranked-above, Ranked, rank-of}
 use Rattle.responses.specs.Verdict.{RespondsInTime}
+use Rattle.responses.proofs.Meeting.{in-time-meets}
 
 module _ (cs ds ts : List ℕ) (shaped : Shaped cs ds ts) where
   -- after the first j rows by rank
@@ -82,8 +83,7 @@ module _ (cs ds ts : List ℕ) (shaped : Shaped cs ds ts) where
 
         meets : (p : ℕ) → (p < j) ⊎ (p ≡ j) ⊎ (j < p) → p < length cs → T (aboveBy ds (ranked cs ds ts shaped p) k) → Meets (rowsOf cs ds ts) (ranked cs ds ts shaped p)
         meets p (inl h) l t =
-            let r : RespondsInTime (rowsOf cs ds ts) response (ranked cs ds ts shaped p) = a .answered p h in
-            record { response = getD response (ranked cs ds ts shaped p) 0; is-response = r .is-response; by-deadline = r .by-deadline }
+            in-time-meets (a .answered p h)
         meets p (inr (inl e)) l t = absurd (above-by-irreflexive ds k (subst (λ (x : ℕ). T (aboveBy ds (ranked cs ds ts shaped x) k)) e t))
         meets p (inr (inr h)) l t = absurd (above-by-irreflexive ds k (above-by-transitive ds k (ranked cs ds ts shaped p) k (ranked-above cs ds ts shaped j p h l) t))
 

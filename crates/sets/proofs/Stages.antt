@@ -7,22 +7,22 @@ use native.Mathlib.Numerals.{add-one}
 use lib.ListN.{length, getD, take}
 use Rattle.answers.specs.declared.Answer.{Answer}
 use Rattle.answers.specs.declared.Answer.the-variants.{Accepted, RowMisses}
-use Rattle.answers.specs.Answer.{numberOf}
+use Rattle.answers.specs.Answer.{numberOf, returnedBy}
 use Rattle.theory.specs.Row.{Row, AllWithin}
-use Rattle.theory.specs.Response.{IsResponse}
-use Rattle.theory.specs.Lists.{rowsOf, Shaped, ForEach, Answered, filled}
+use Rattle.theory.specs.Returned.{returned}
+use Rattle.theory.specs.Response.{AllMeet, IsResponse}
+use Rattle.theory.specs.Lists.{rowsOf, Shaped, Answered, filled}
 use Rattle.theory.specs.Lists as lists
-use Rattle.theory.proofs.RowsOf.{rows-of-length}
 use Rattle.climbs.specs.Ranking.{rankingBy}
-use Rattle.climbs.proofs.InLists.{in-lists, in-rows}
+use Rattle.climbs.proofs.InLists.{in-lists, in-rows, front-for-each}
 use Rattle.responses.specs.declared.Verdict.{Verdict}
 use Rattle.responses.specs.declared.Verdict.the-variants.{OnTime, Late}
 use Rattle.responses.specs.Verdict.{RespondsInTime, IsVerdict}
+use Rattle.responses.proofs.Meeting.{in-time-meets, all-in-time-meet}
 use Rattle.refusals.specs.Checked as checks
 use Rattle.refusals.specs.Checked.{Checked}
 use Rattle.sets.specs.Begun.{IsBegun}
 use Rattle.sets.specs.Begun as stage
-use Rattle.sets.proofs.Front.{front-for-each}
 
 module _ (cs ds ts : List ℕ) (responses allowances : ℕ) where
   -- what the checks have passed
@@ -72,11 +72,17 @@ begun-ready cs ds ts responses allowances order response (stage.begun checked o 
     record { passed = checks-pass cs ds ts responses allowances checked; ranked = o; long = l; in-time = t }
 
 module _ (cs ds ts : List ℕ) (responses allowances : ℕ) (order response : List ℕ) (ready : Ready cs ds ts responses allowances order response) where
-  -- what either way to the allowances asks
-  pub allowances-may-follow :
+  in-time : (k : ℕ) → k < length cs → RespondsInTime (rowsOf cs ds ts) response k
+  in-time k h = ready .in-time k (in-rows cs ds ts (ready .passed .shaped) h)
+
+  -- what the trials ask
+  pub trials-may-follow :
       (Shaped cs ds ts × AllWithin (rowsOf cs ds ts)) × ((take (length ds) order ≡ rankingBy ds) × ((k : ℕ) → k < length cs → RespondsInTime (rowsOf cs ds ts) response k))
-  allowances-may-follow =
-      ((ready .passed .shaped, ready .passed .within), (ready .ranked, λ k h. ready .in-time k (in-rows cs ds ts (ready .passed .shaped) h)))
+  trials-may-follow = ((ready .passed .shaped, ready .passed .within), (ready .ranked, in-time))
+
+  -- what the points ask
+  pub points-may-follow : (Shaped cs ds ts × AllWithin (rowsOf cs ds ts)) × ((take (length ds) order ≡ rankingBy ds) × AllMeet (rowsOf cs ds ts))
+  points-may-follow = ((ready .passed .shaped, ready .passed .within), (ready .ranked, all-in-time-meet cs ds ts response (ready .passed .shaped) in-time))
 
   -- what the delivery asks
   pub delivery-may-follow : (allowed : List ℕ) → length allowed ≡ 24
@@ -89,7 +95,7 @@ module _ (Allowance : List Row → ℕ → ℕ → Type 0) (cs ds ts responses a
   pub begun-refused : {a : Answer} (order response : List ℕ)
       → IsBegun cs ds ts (length responses) (length allowances) order response a
       → (numberOf a ≡ 0 → ⊥)
-      → Answered Allowance cs ds ts responses allowances a responses allowances
+      → Answered Allowance cs ds ts responses allowances (returnedBy a) responses allowances
   begun-refused order response (stage.refused (checks.rows-out-of-range n) r) s = lists.rows-out-of-range n
   begun-refused order response (stage.refused (checks.row-breaks-limits k shaped f) r) s = lists.row-breaks-limits k shaped f
   begun-refused order response (stage.refused (checks.output-too-short shaped w o) r) s = lists.output-too-short shaped w o
@@ -102,15 +108,9 @@ module _ (Allowance : List Row → ℕ → ℕ → Type 0) (cs ds ts responses a
       → Ready cs ds ts (length responses) (length allowances) order response
       → length allowed ≡ 24
       → ((i : ℕ) → i < length cs → Allowance (rowsOf cs ds ts) i (getD allowed i 0))
-      → Answered Allowance cs ds ts responses allowances Accepted (filled (take (length cs) response) responses) (filled (take (length cs) allowed) allowances)
+      → Answered Allowance cs ds ts responses allowances (returned 0 0) (filled (take (length cs) response) responses) (filled (take (length cs) allowed) allowances)
   ready-accepted order response allowed ready long is-allowance =
       lists.accepted (take (length cs) response) (take (length cs) allowed) (ready .passed .shaped) (ready .passed .within) (ready .passed .responses-fit) (ready .passed .allowances-fit)
-      (λ k h. let r = ready .in-time k h in record { response = getD response k 0; is-response = r .is-response; by-deadline = r .by-deadline })
-      (first response (ready .long) (IsResponse (rowsOf cs ds ts)) (λ k h. ready .in-time k (in-rows cs ds ts (ready .passed .shaped) h) .is-response))
-      (first allowed long (Allowance (rowsOf cs ds ts)) is-allowance)
-    where
-      first : (numbers : List ℕ) → length numbers ≡ 24 → (Right : ℕ → ℕ → Type 0) → ((k : ℕ) → k < length cs → Right k (getD numbers k 0)) → ForEach (rowsOf cs ds ts) Right (take (length cs) numbers)
-      first numbers long Right =
-          front-for-each (rowsOf cs ds ts) Right numbers (length cs)
-          (sym (rows-of-length cs ds ts (ready .passed .shaped .as-many-deadlines) (ready .passed .shaped .as-many-periods)))
-          (omega (arith, long, ready .passed .shaped .no-25th))
+      (λ k h. in-time-meets (ready .in-time k h))
+      (front-for-each cs ds ts (ready .passed .shaped) (IsResponse (rowsOf cs ds ts)) response (ready .long) (λ k h. ready .in-time k (in-rows cs ds ts (ready .passed .shaped) h) .is-response))
+      (front-for-each cs ds ts (ready .passed .shaped) (Allowance (rowsOf cs ds ts)) allowed long is-allowance)

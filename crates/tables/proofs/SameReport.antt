@@ -5,9 +5,7 @@ use mathlib.Core.List.{List, [], _∷_, _++_, flatMap, append-assoc}
 use native.Mathlib.Omega.{arith}
 use lib.ListN.{length, take, drop}
 use lib.Seq.{take-at}
-use Rattle.answers.specs.declared.Answer.{Answer}
-use Rattle.answers.specs.declared.Answer.the-variants.{Accepted}
-use Rattle.answers.specs.Answer.{numberOf}
+use Rattle.theory.specs.Returned.{Returned, returned}
 use Rattle.theory.specs.Row.{Row, AllWithin}
 use Rattle.theory.specs.Lists.{filled}
 use Rattle.placement.specs.Core.{Table}
@@ -62,10 +60,10 @@ pub record ReportOf (rule : Rule) (bytes report after : List ℕ) : Type 0 where
   pub is-report : after ≡ filled (reportBytes of-table figures) report
 
 -- each accepted call says that of one table and its figures
-pub accepted-report : {rule : Rule} {bytes report : List ℕ} {answer : Answer} {after : List ℕ} → TableAnswered rule bytes report answer after → answer ≡ Accepted → ReportOf rule bytes report after
-accepted-report (TableAnswered.not-a-table answer refused) accepted = absurd (let number = refused-from-1-to-5 _ answer refused in let z : numberOf answer ≡ 0 = ap numberOf accepted in omega arith)
-accepted-report (TableAnswered.output-too-short t reads short) accepted = absurd (let z : _≡_ {A = ℕ} 7 0 = ap numberOf accepted in omega arith)
-accepted-report (TableAnswered.no-core-takes t i reads long stopped) accepted = absurd (let z : _≡_ {A = ℕ} 6 0 = ap numberOf accepted in omega arith)
+pub accepted-report : {rule : Rule} {bytes report : List ℕ} {returns : Returned} {after : List ℕ} → TableAnswered rule bytes report returns after → returns ≡ returned 0 0 → ReportOf rule bytes report after
+accepted-report (TableAnswered.not-a-table number row refused) accepted = absurd (let z : number ≡ 0 = ap (λ (r : Returned). r .number) accepted in omega (arith, refused-from-1-to-5 _ number row refused))
+accepted-report (TableAnswered.output-too-short t reads short) accepted = absurd (let z : _≡_ {A = ℕ} 7 0 = ap (λ (r : Returned). r .number) accepted in omega arith)
+accepted-report (TableAnswered.no-core-takes t i reads long stopped) accepted = absurd (let z : _≡_ {A = ℕ} 6 0 = ap (λ (r : Returned). r .number) accepted in omega arith)
 accepted-report (TableAnswered.accepted t all reads long is-certified) accepted =
     record { of-table = t; figures = all; is-table = reads; is-certified = is-certified; is-report = refl }
 
@@ -107,7 +105,7 @@ module _ {rule : Rule} {bytes others report lent after : List ℕ} (first : Repo
 
 -- TWO ACCEPTED REPORTS THAT ARE EQUAL HAVE THE SAME TABLE AND THE SAME FIGURES
 pub equal-reports :
-    {rule : Rule} {bytes others report lent after : List ℕ} (first : TableAnswered rule bytes report Accepted after) (second : TableAnswered rule others lent Accepted after)
+    {rule : Rule} {bytes others report lent after : List ℕ} (first : TableAnswered rule bytes report (returned 0 0) after) (second : TableAnswered rule others lent (returned 0 0) after)
     → (accepted-report first refl .of-table ≡ accepted-report second refl .of-table) × (accepted-report first refl .figures ≡ accepted-report second refl .figures)
 equal-reports first second =
     (same-report-same-table (accepted-report first refl) (accepted-report second refl), same-report-same-figures (accepted-report first refl) (accepted-report second refl))

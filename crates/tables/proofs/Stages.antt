@@ -6,7 +6,7 @@ use native.Mathlib.Omega.{arith}
 use lib.ListN.{length, take}
 use lib.Seq.{length-take-le}
 use Rattle.answers.specs.declared.Answer.{Answer}
-use Rattle.answers.specs.Answer.{numberOf}
+use Rattle.answers.specs.Answer.{returnedBy, numberOf, rowOf}
 use Rattle.theory.specs.Lists.{Shaped}
 use Rattle.placement.specs.Choice.{allowanceFit}
 use Rattle.placement.specs.Figures.{Certified}
@@ -85,13 +85,13 @@ module _ {bytes : List ℕ} {read : Read} (table-read : TableRead bytes read) {c
 
   -- where it is one, no core takes a row
   pub refusal-answered : (report : List ℕ) → reportLength (read .n) ≤ length report → IsHeld (heldTable read) certificate → (numberOf (certificate .answer) ≡ 0 → ⊥)
-      → TableAnswered allowanceFit bytes report (certificate .answer) report
+      → TableAnswered allowanceFit bytes report (returnedBy (certificate .answer)) report
   refusal-answered report long (certified accepted is-certified held) refused = absurd (refused (ap numberOf accepted))
   refusal-answered report long (none-takes i refuses stop) refused =
-      subst (λ (answer : Answer). TableAnswered allowanceFit bytes report answer report) (sym refuses)
+      subst (λ (answer : Answer). TableAnswered allowanceFit bytes report (returnedBy answer) report) (sym refuses)
       (TableAnswered.no-core-takes (heldTable read) i (table-read .is-table) (subst (λ (n : ℕ). reportLength n ≤ length report) (sym (table-read .many)) long) stop)
 
-  pub refusal-listed : IsHeld (heldTable read) certificate → (numberOf (certificate .answer) ≡ 0 → ⊥) → Listed allowanceFit bytes (refusal (certificate .answer))
+  pub refusal-listed : IsHeld (heldTable read) certificate → (numberOf (certificate .answer) ≡ 0 → ⊥) → Listed allowanceFit bytes (refusal (numberOf (certificate .answer)) (rowOf (certificate .answer)))
   refusal-listed (certified accepted is-certified held) refused = absurd (refused (ap numberOf accepted))
   refusal-listed (none-takes i refuses stop) refused =
-      subst (λ (answer : Answer). Listed allowanceFit bytes (refusal answer)) (sym refuses) (Listed.no-core-takes (heldTable read) i (table-read .is-table) stop)
+      subst (λ (answer : Answer). Listed allowanceFit bytes (refusal (numberOf answer) (rowOf answer))) (sym refuses) (Listed.no-core-takes (heldTable read) i (table-read .is-table) stop)

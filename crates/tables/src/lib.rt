@@ -1,6 +1,7 @@
 // The table service, from table bytes to report bytes, and the listing of a table: document 01, "Records", "Refusal numbers" and "The listing".
 ghost use Prim.Native.Nat.{_≤_};
 ghost use lib.ListN.{length, take};
+ghost use Rattle.answers.specs.Answer.{returnedBy};
 ghost use Rattle.placement.specs.Choice.{allowanceFit};
 ghost use Rattle.records.specs.Reading.{TableWithin};
 ghost use Rattle.reading.specs.Held.{Held, heldTable};
@@ -24,7 +25,7 @@ fn certificate_of(read: Read) -> Certificate
 
 // The table service.
 pub fn table_service(table: &[u8], report: &mut [u8]) -> Answer
-    ensures { λ r. ⌜ TableAnswered allowanceFit (now (table .entry)) (now (report .entry)) r (now (report .exit)) ⌝ }
+    ensures { λ r. ⌜ TableAnswered allowanceFit (now (table .entry)) (now (report .entry)) (returnedBy r) (now (report .exit)) ⌝ }
 {
     let read = reading::read_table(table);
     let answer = read.answer;

@@ -5,7 +5,7 @@ use mathlib.Core.List.{List, _++_}
 use native.Mathlib.Omega.{arith}
 use lib.ListN.{length, take, drop, replicate}
 use lib.Seq.{length-front, length-take-le}
-use Rattle.answers.specs.Answer.{numberOf}
+use Rattle.answers.specs.Answer.{returnedBy, numberOf}
 use Rattle.records.proofs.Number.{AllBelow}
 use Rattle.records.specs.ListBytes.{numbersIn}
 use Rattle.records.proofs.ListBytes.{numbers-length}
@@ -60,7 +60,7 @@ back-length numbers lent kept = length-front array numbers lent kept
 -- the service's result on the parts of the arrays
 cut : (c : tie.After-answer-lists)
     → let args = c .before .before .before .before .before .before .before .before .before .before .args in
-    CutAnswered (allowanceBy (args .by)) (args .c .now) (args .d .now) (args .t .now) (numbersIn (args .responses .now)) (numbersIn (args .allowances .now)) (c .answer-lists .result) (c .answer-lists .last .1 .1 .1 .1 .0) (c .answer-lists .last .1 .1 .1 .1 .1 .0)
+    CutAnswered (allowanceBy (args .by)) (args .c .now) (args .d .now) (args .t .now) (numbersIn (args .responses .now)) (numbersIn (args .allowances .now)) (returnedBy (c .answer-lists .result)) (c .answer-lists .last .1 .1 .1 .1 .0) (c .answer-lists .last .1 .1 .1 .1 .1 .0)
 cut c =
     let args = c .before .before .before .before .before .before .before .before .before .before .args in
     record {

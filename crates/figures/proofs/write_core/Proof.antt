@@ -9,7 +9,8 @@ use Rattle.theory.specs.Response.{IsResponse}
 use Rattle.theory.specs.Allowance.{IsAllowance}
 use Rattle.theory.specs.Lists.{rowsOf}
 use Rattle.responses.specs.Verdict.{RespondsInTime}
-use Rattle.figures.proofs.CoreNumbers.{meeting-on-time, core-front}
+use Rattle.climbs.proofs.InLists.{front-for-each}
+use Rattle.figures.proofs.CoreNumbers.{meeting-on-time}
 use Rattle.figures.proofs.write_core.Statement.{statement}
 use Rattle.figures.proofs.write_core.Tie as tie
 
@@ -70,10 +71,10 @@ returns c =
       core-responses = _;
       core-allowances = _;
       are-responses =
-          core-front (lists .c .now) (lists .d .now) (lists .t .now) (start .pre .0 .0) (IsResponse (rowsOf (lists .c .now) (lists .d .now) (lists .t .now))) (responded .responses-of .result .response) (responded .responses-of .ensures .1)
+          front-for-each (lists .c .now) (lists .d .now) (lists .t .now) (start .pre .0 .0) (IsResponse (rowsOf (lists .c .now) (lists .d .now) (lists .t .now))) (responded .responses-of .result .response) (responded .responses-of .ensures .1)
           (λ k h. on-time responded k h .is-response);
       are-allowances =
-          core-front (lists .c .now) (lists .d .now) (lists .t .now) (start .pre .0 .0) (IsAllowance (rowsOf (lists .c .now) (lists .d .now) (lists .t .now))) (tried .allowances-of .result) (tried .allowances-of .ensures .1) (tried .allowances-of .ensures .0);
+          front-for-each (lists .c .now) (lists .d .now) (lists .t .now) (start .pre .0 .0) (IsAllowance (rowsOf (lists .c .now) (lists .d .now) (lists .t .now))) (tried .allowances-of .result) (tried .allowances-of .ensures .1) (tried .allowances-of .ensures .0);
       responses-written = c .before .before .before .before .before .before .before .scatter .ensures;
       allowances-written = c .before .before .scatter2 .ensures;
     }

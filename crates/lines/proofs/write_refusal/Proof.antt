@@ -40,7 +40,7 @@ returns c =
     let number = c .before .before .before .before .before .before .before .before .before .before .before .before .write-number .ensures in
     let row = c .before .before .before .before .before .before .before .write-bytes2 .ensures in
     let row-number = c .before .before .write-number2 .ensures in (
-      refusal-written (c .before .before .before .before .before .before .before .before .before .before .before .before .before .before .before .before .before .before .before .before .before .args .answer) (refused .0) (rw (c .before .before .before .before .before .before .before .before .before .before .before .before .before .number-of .ensures) at (number .0)) (row .0) (rw (c .before .before .before .row-of .ensures) at (row-number .0)),
+      refusal-written _ _ (refused .0) (rw (c .before .before .before .before .before .before .before .before .before .before .before .before .before .number-of .ensures) at (number .0)) (row .0) (rw (c .before .before .before .row-of .ensures) at (row-number .0)),
       omega (arith, refused .1, number .1, row .1, row-number .1),
     )
 

@@ -38,7 +38,7 @@ module _ (c : tie.After-as-number) where
   abbrev bytes : List ℕ
   bytes = c .before .before .before .before .before .before .args .bytes .now
 
-  out-of-range : (1 ≤ c .as-number .result → c .as-number .result ≤ 8 → ⊥) → readTable bytes ≡ refused CoresOutOfRange
+  out-of-range : (1 ≤ c .as-number .result → c .as-number .result ≤ 8 → ⊥) → readTable bytes ≡ refused 2 0
   out-of-range = cores-out-of-range bytes (omega arith) (c .before .before .if2 .left) (c .as-number .result) (c .as-number .ensures)
 
   in-range : 1 ≤ c .as-number .result → c .as-number .result ≤ 8 → readTable bytes ≡ readRows 24 (c .as-number .result) [] (drop 2 bytes)

@@ -7,7 +7,7 @@ use lib.IntN.{pos}
 use lib.ListN.{length}
 use Rattle.theory.specs.Row.{Row}
 use Rattle.theory.specs.Points.{IsPointAllowance}
-use Rattle.sets.proofs.Stages.{Ready, begun-ready, allowances-may-follow, delivery-may-follow, begun-refused, ready-accepted}
+use Rattle.sets.proofs.Stages.{Ready, begun-ready, points-may-follow, delivery-may-follow, begun-refused, ready-accepted}
 use Rattle.sets.proofs.point_service.Statement.{statement}
 use Rattle.sets.proofs.point_service.Tie as tie
 
@@ -31,8 +31,8 @@ ready c =
     let args = c .before .before .before .before .before .before .before .before .args in
     begun-ready (args .c .now) (args .d .now) (args .t .now) (length (args .responses .now)) (length (args .allowances .now)) _ _ (c .before .before .begin .ensures) (sym (c .before .number-of .ensures) ∙ c .if1 .left)
 
-point-numbers-requires : tie.Need-point-numbers-requires
-point-numbers-requires c κs = allowances-may-follow _ _ _ _ _ _ _ (ready (c .before .before .before .before))
+allowances-by-points-requires : tie.Need-allowances-by-points-requires
+allowances-by-points-requires c κs = points-may-follow _ _ _ _ _ _ _ (ready (c .before .before .before))
 
 slice-aggregate-deliver : tie.Need-slice-aggregate-deliver
 slice-aggregate-deliver c = search needs
@@ -41,7 +41,7 @@ slice-aggregate-deliver-2 : tie.Need-slice-aggregate-deliver-2
 slice-aggregate-deliver-2 c = search needs
 
 deliver-requires : tie.Need-deliver-requires
-deliver-requires c κs = delivery-may-follow _ _ _ _ _ _ _ (ready (c .before .before .before .before .before .before .before .before .before)) (c .before .before .before .before .point-numbers .result) (c .before .before .before .before .point-numbers .ensures .1)
+deliver-requires c κs = delivery-may-follow _ _ _ _ _ _ _ (ready (c .before .before .before .before .before .before .before .before)) (c .before .before .before .before .allowances-by-points .result) (c .before .before .before .before .allowances-by-points .ensures .1)
 
 same-length : tie.Need-same-length
 same-length c = search needs
@@ -51,9 +51,9 @@ same-length-2 c = search needs
 
 returns-2 : tie.Need-returns-2
 returns-2 c =
-    let args = c .before .before .before .before .before .before .before .before .before .before .before .before .before .before .before .before .before .before .before .before .before .before .args in
+    let args = c .before .before .before .before .before .before .before .before .before .before .before .before .before .before .before .before .before .before .before .before .before .args in
     rw (c .before .before .before .before .deliver .ensures .0, c .before .before .before .before .deliver .ensures .1)
-    (ready-accepted (λ (rows : List Row) (i a : ℕ). IsPointAllowance rows i (pos a)) (args .c .now) (args .d .now) (args .t .now) (args .responses .now) (args .allowances .now) _ _ _ (ready (c .before .before .before .before .before .before .before .before .before .before .before .before .before .before)) (c .before .before .before .before .before .before .before .before .before .point-numbers .ensures .1) (c .before .before .before .before .before .before .before .before .before .point-numbers .ensures .0))
+    (ready-accepted (λ (rows : List Row) (i a : ℕ). IsPointAllowance rows i (pos a)) (args .c .now) (args .d .now) (args .t .now) (args .responses .now) (args .allowances .now) _ _ _ (ready (c .before .before .before .before .before .before .before .before .before .before .before .before .before)) (c .before .before .before .before .before .before .before .before .before .allowances-by-points .ensures .1) (c .before .before .before .before .before .before .before .before .before .allowances-by-points .ensures .0))
 
 pub point-service-spec : {M : Type 1} → statement M
 point-service-spec =
@@ -62,7 +62,7 @@ point-service-spec =
     begin-requires
     number-of-requires
     returns
-    point-numbers-requires
+    allowances-by-points-requires
     slice-aggregate-deliver
     slice-aggregate-deliver-2
     deliver-requires

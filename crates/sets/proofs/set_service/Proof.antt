@@ -3,7 +3,7 @@ use mathlib.Core.Path.{sym, _∙_}
 use borrow.Author.Needs.{needs}
 use lib.ListN.{length}
 use Rattle.theory.specs.Allowance.{IsAllowance}
-use Rattle.sets.proofs.Stages.{Ready, begun-ready, allowances-may-follow, delivery-may-follow, begun-refused, ready-accepted}
+use Rattle.sets.proofs.Stages.{Ready, begun-ready, trials-may-follow, delivery-may-follow, begun-refused, ready-accepted}
 use Rattle.sets.proofs.set_service.Statement.{statement}
 use Rattle.sets.proofs.set_service.Tie as tie
 
@@ -28,7 +28,7 @@ ready c =
     begun-ready (args .c .now) (args .d .now) (args .t .now) (length (args .responses .now)) (length (args .allowances .now)) _ _ (c .before .before .begin .ensures) (sym (c .before .number-of .ensures) ∙ c .if1 .left)
 
 trial-allowances-requires : tie.Need-trial-allowances-requires
-trial-allowances-requires c κs = allowances-may-follow _ _ _ _ _ _ _ (ready (c .before .before .before .before))
+trial-allowances-requires c κs = trials-may-follow _ _ _ _ _ _ _ (ready (c .before .before .before .before))
 
 slice-aggregate-deliver : tie.Need-slice-aggregate-deliver
 slice-aggregate-deliver c = search needs

@@ -6,7 +6,7 @@ use native.Mathlib.Omega.{arith}
 use borrow.Author.Needs.{needs}
 use lib.ListN.{length, take}
 use lib.Seq.{length-take-le}
-use Rattle.answers.specs.declared.Answer.the-variants.{Accepted}
+use Rattle.theory.specs.Returned.{returned}
 use Rattle.theory.specs.Lists.{filled}
 use Rattle.placement.specs.Choice.{allowanceFit}
 use Rattle.records.specs.Report.{figuresRecord, reportBytes}
@@ -27,7 +27,7 @@ number-of-requires : tie.Need-number-of-requires
 number-of-requires c κs = search needs
 
 returns : tie.Need-returns
-returns c = TableAnswered.not-a-table _ (read-refused (c .before .before .read-table .ensures) (λ none. c .if1 .taken (c .before .number-of .ensures ∙ none)))
+returns c = TableAnswered.not-a-table _ _ (read-refused (c .before .before .read-table .ensures) (λ none. c .if1 .taken (c .before .number-of .ensures ∙ none)))
 
 -- the table that was read
 read : (c : tie.Else1) → TableRead (c .before .before .before .before .before .args .table .now) (c .before .before .read-table .result)
@@ -130,7 +130,7 @@ returns-4 c =
     put
     ∙ ap (λ (count : ℕ). filled (take (2 + 13 * result .n) table ++ (flatMap figuresRecord all ++ (4 ∷ count ∷ []))) report) (cores-front figured)
     ∙ ap (λ (bytes : List ℕ). filled bytes report) (report-of-records table (heldTable result) all (result .n) (below (else .before .before .before .before)) (was-read .is-table) (was-read .many)) in
-    subst (TableAnswered allowanceFit table report Accepted) (sym written)
+    subst (TableAnswered allowanceFit table report (returned 0 0)) (sym written)
     (TableAnswered.accepted (heldTable result) all (was-read .is-table) (omega (arith, was-read .many, else .before .before .before .if2 .left)) (figured .is-certified))
 
 pub table-service-spec : {M : Type 1} → statement M

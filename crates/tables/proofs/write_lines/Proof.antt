@@ -26,7 +26,7 @@ returns : tie.Need-returns
 returns c =
     let then = c .before .before .before .before in
     let refused = read-refused (then .before .before .read-table .ensures) (λ none. then .if1 .taken (then .before .number-of .ensures ∙ none)) in
-    (subst (Listed allowanceFit (c .before .before .before .before .before .before .before .before .before .args .table .now)) (sym (c .before .before .write-refusal .ensures .0)) (Listed.not-a-table _ refused), c .before .before .write-refusal .ensures .1)
+    (subst (Listed allowanceFit (c .before .before .before .before .before .before .before .before .before .args .table .now)) (sym (c .before .before .write-refusal .ensures .0)) (Listed.not-a-table _ _ refused), c .before .before .write-refusal .ensures .1)
 
 -- the table that was read
 read : (c : tie.Else1) → TableRead (c .before .before .before .before .before .args .table .now) (c .before .before .read-table .result)
