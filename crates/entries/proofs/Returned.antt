@@ -19,6 +19,8 @@ use Rattle.records.specs.ListBytes.{numbersIn, BytesAnswered, not-fours, as-num
 use Rattle.records.proofs.BytesAnswered.{bytes-answered-unique}
 use Rattle.service.proofs.Table.{table-answered-unique}
 use Rattle.entries.specs.Entry.{Returned, TableReturned, ListsReturned, SetReturned, PointReturned}
+use Rattle.service.proofs.Table.{listing-answered-unique}
+use Rattle.entries.specs.Entry.{ListingReturned}
 
 -- one answer has one number and one row
 same-answer-returned : {P Q : Answer → Type 0} {number other row other-row : ℕ} (p : Returned P number row) (q : Returned Q other other-row) → p .answer ≡ q .answer → (number ≡ other) × (row ≡ other-row)
@@ -77,3 +79,10 @@ entries-agree cs ds ts responses allowances = (
   returned-carry IsAllowance (λ rows i a. IsPointAllowance rows i (pos a)) cs ds ts responses allowances (λ answer Rs As p. services-agree (numbersIn cs) (numbersIn ds) (numbersIn ts) (numbersIn responses) (numbersIn allowances) .0 p),
   returned-carry (λ rows i a. IsPointAllowance rows i (pos a)) IsAllowance cs ds ts responses allowances (λ answer Rs As p. services-agree (numbersIn cs) (numbersIn ds) (numbersIn ts) (numbersIn responses) (numbersIn allowances) .1 p),
 )
+
+-- THE LISTING ENTRY'S RESULT IS DETERMINED
+pub listing-returned-unique : {table listing : List ℕ} {written other : ℕ} {first second : List ℕ}
+    → ListingReturned table listing written first
+    → ListingReturned table listing other second
+    → (written ≡ other) × (first ≡ second)
+listing-returned-unique {table} p q = listing-answered-unique allowanceFit allowance-fit-is-rule table p q
