@@ -36,6 +36,16 @@ fn say_bytes(bytes: &[u8]) {
     }
 }
 
+fn say_lent(bytes: &[u8]) {
+    say_bytes(bytes);
+    say(b"\n");
+}
+
+fn say_both(responses: &[u8], allowances: &[u8]) {
+    say_bytes(responses);
+    say_lent(allowances);
+}
+
 fn say_answer(answer: EntryAnswer) {
     say_number(answer.number as usize);
     say(b" ");
@@ -150,20 +160,15 @@ fn lent_space() -> [u8; 1200]
     [0xa5; 1200]
 }
 
-// Calls the table service or the listing, and prints what it returns.
-fn call_table(table: &[u8], lent: &mut [u8], listing: bool) {
+// The table service or the listing, and the lent bytes after it.
+fn answer_table(table: &[u8], lent: &mut [u8], listing: bool) {
     if listing {
         say_number(entries::hibalunduk_listing(table, lent));
+        say_lent(lent);
         return;
     }
     say_answer(entries::hibalunduk_table(table, lent));
-}
-
-// The same, and the lent bytes after it.
-fn answer_table(table: &[u8], lent: &mut [u8], listing: bool) {
-    call_table(table, lent, listing);
-    say_bytes(lent);
-    say(b"\n");
+    say_lent(lent);
 }
 
 // A line with a table.
@@ -175,8 +180,8 @@ fn run_table(line: &[u8], listing: bool) {
     answer_table(&table[..n], &mut lent[..length], listing);
 }
 
-// Calls the set service or the point service, and prints what it returns.
-fn call_rows(
+// The set service or the point service, and the lent bytes after it.
+fn answer_rows(
     c: &[u8],
     d: &[u8],
     t: &[u8],
@@ -186,24 +191,11 @@ fn call_rows(
 ) {
     if points {
         say_answer(entries::hibalunduk_point(c, d, t, responses, allowances));
+        say_both(responses, allowances);
         return;
     }
     say_answer(entries::hibalunduk_set(c, d, t, responses, allowances));
-}
-
-// The same, and the lent bytes after it.
-fn answer_rows(
-    c: &[u8],
-    d: &[u8],
-    t: &[u8],
-    responses: &mut [u8],
-    allowances: &mut [u8],
-    points: bool,
-) {
-    call_rows(c, d, t, responses, allowances, points);
-    say_bytes(responses);
-    say_bytes(allowances);
-    say(b"\n");
+    say_both(responses, allowances);
 }
 
 // The same on rows, with lent bytes as many as their line says.
