@@ -1,6 +1,5 @@
-/* Answers tables in hex from standard input, one a line, with second_table or (argument `listing`) second_listing. */
-/* A line that starts with # is a comment and printed as it is. */
-/* gcc -std=c11 -O2 -Wall -Wextra -Werror answer.c second.c -o answer */
+/* Answers lines from standard input by the second program, as crates/entries_run answers them by the entries for C; the
+ * forms of a line stand there, and a line that has none of them ends the run with status 2. */
 #include "second.h"
 
 #include <stdbool.h>
@@ -8,146 +7,159 @@
 #include <stdlib.h>
 #include <string.h>
 
-enum { REPORT_MAX = 4 + 23 * 24, LISTING_MAX = 1024, FILL = 0xA5 };
+enum { LINE_MAX = 8192, WORDS_MAX = 6, BYTES_MAX = 1200, LENT = 0xA5 };
 
-/* A line: its characters, the table's bytes, and the report's length. */
-struct line {
-    char *text;
-    size_t used, size;
-    uint8_t *table;
-    size_t table_len, report_len;
+/* Bytes that a call reads, or that it is lent. */
+struct bytes {
+    uint8_t of[BYTES_MAX];
+    size_t len;
 };
 
-/* Ends the program with a message. */
-static void fail(const char *message, unsigned long number)
+/* A line: its words, each behind one space. */
+struct line {
+    unsigned long number;
+    char text[LINE_MAX], *word[WORDS_MAX];
+    size_t words;
+};
+
+typedef struct second_answer list_service(const uint8_t *, size_t, const uint8_t *, size_t, const uint8_t *, size_t,
+                                          uint8_t *, size_t, uint8_t *, size_t);
+
+/* Ends the run at a line that cannot be answered. */
+static void fail(const struct line *line, const char *message)
 {
-    fprintf(stderr, "line %lu: %s\n", number, message);
+    fprintf(stderr, "answer: line %lu: %s\n", line->number, message);
     exit(2);
 }
 
-/* Memory of at least one byte. */
-static void *memory(void *old, size_t size)
+/* The value of a hex digit in lower case, or -1. */
+static int digit(char symbol)
 {
-    void *new = realloc(old, size == 0 ? 1 : size);
+    const char *digits = "0123456789abcdef", *found = symbol == '\0' ? NULL : strchr(digits, symbol);
 
-    if (new == NULL) {
-        fprintf(stderr, "no memory\n");
-        exit(2);
-    }
-    return new;
+    return found == NULL ? -1 : (int)(found - digits);
 }
 
-/* Reads one line without its newline; false at the end of the input. */
+/* Reads a word in hex. */
+static void read_bytes(const struct line *line, size_t word, struct bytes *bytes)
+{
+    const char *text = line->word[word];
+
+    bytes->len = strlen(text) / 2;
+    if (strlen(text) % 2 != 0 || bytes->len > BYTES_MAX)
+        fail(line, "not at most 1200 bytes in hex");
+    for (size_t n = 0; n < bytes->len; n++) {
+        int high = digit(text[2 * n]), low = digit(text[2 * n + 1]);
+
+        if (high < 0 || low < 0)
+            fail(line, "not bytes in hex");
+        bytes->of[n] = (uint8_t)(16 * high + low);
+    }
+}
+
+/* Lends as many bytes as a word says. */
+static void lend(const struct line *line, size_t word, struct bytes *bytes)
+{
+    const char *text = line->word[word];
+
+    if (*text == '\0' || strspn(text, "0123456789") != strlen(text) || strlen(text) > 4)
+        fail(line, "not a length");
+    bytes->len = strtoul(text, NULL, 10);
+    if (bytes->len > BYTES_MAX)
+        fail(line, "a length above 1200");
+    memset(bytes->of, LENT, sizeof bytes->of);
+}
+
+/* Prints an answer's number and row. */
+static void print_answer(struct second_answer answer)
+{
+    printf("%u %u", (unsigned)answer.number, (unsigned)answer.row);
+}
+
+/* Prints bytes in hex, behind a space. */
+static void print_bytes(const struct bytes *bytes)
+{
+    putchar(' ');
+    for (size_t n = 0; n < bytes->len; n++)
+        printf("%02x", bytes->of[n]);
+}
+
+/* A line with a table, for the table service or for the listing. */
+static void answer_table(const struct line *line, bool listing)
+{
+    struct bytes table, lent;
+
+    read_bytes(line, 1, &table);
+    lend(line, 2, &lent);
+    if (listing)
+        printf("%lu", (unsigned long)second_listing(table.of, table.len, lent.of, lent.len));
+    else
+        print_answer(second_table(table.of, table.len, lent.of, lent.len));
+    print_bytes(&lent);
+    putchar('\n');
+}
+
+/* A line with rows, for one of the list services. */
+static void answer_rows(const struct line *line, list_service *service)
+{
+    struct bytes c, d, t, responses, allowances;
+
+    read_bytes(line, 1, &c);
+    read_bytes(line, 2, &d);
+    read_bytes(line, 3, &t);
+    lend(line, 4, &responses);
+    lend(line, 5, &allowances);
+    print_answer(service(c.of, c.len, d.of, d.len, t.of, t.len, responses.of, responses.len, allowances.of,
+                         allowances.len));
+    print_bytes(&responses);
+    print_bytes(&allowances);
+    putchar('\n');
+}
+
+/* Reads a line and takes it apart; false at the end of the input. */
 static bool read_line(struct line *line)
 {
-    int byte = getchar();
+    char *at = line->text;
 
-    if (byte == EOF)
+    if (fgets(line->text, sizeof line->text, stdin) == NULL)
         return false;
-    line->used = 0;
-    for (;; byte = getchar()) {
-        if (line->used == line->size) {
-            line->size = 2 * line->size + 64;
-            line->text = memory(line->text, line->size);
-        }
-        if (byte == EOF || byte == '\n')
-            break;
-        line->text[line->used++] = (char)byte;
+    line->number++;
+    line->words = 0;
+    if (strchr(line->text, '\n') == NULL)
+        fail(line, "no newline at its end, or too long");
+    *strchr(line->text, '\n') = '\0';
+    if (*at == '#')
+        return true;
+    for (; at != NULL && line->words < WORDS_MAX; at = strchr(at, ' ')) {
+        if (line->words > 0)
+            *at++ = '\0';
+        line->word[line->words++] = at;
     }
-    line->text[line->used] = '\0';
     return true;
 }
 
-/* The value of a hex digit, or -1. */
-static int digit(char symbol)
+/* Answers a line by its first word. */
+static void answer_line(const struct line *line)
 {
-    const char *digits = "0123456789abcdef0123456789ABCDEF";
-    const char *found = symbol == '\0' ? NULL : strchr(digits, symbol);
-
-    return found == NULL ? -1 : (int)((found - digits) % 16);
-}
-
-/* Takes a line apart: the table's bytes in hex, then perhaps a space and the report's length. */
-static void take_line(struct line *line, unsigned long number)
-{
-    size_t hex = strcspn(line->text, " ");
-
-    if (strlen(line->text) != line->used || hex % 2 != 0)
-        fail("not bytes in hex", number);
-    line->table_len = hex / 2;
-    line->table = memory(line->table, line->table_len);
-    for (size_t n = 0; n < line->table_len; n++) {
-        int high = digit(line->text[2 * n]), low = digit(line->text[2 * n + 1]);
-
-        if (high < 0 || low < 0)
-            fail("not bytes in hex", number);
-        line->table[n] = (uint8_t)(16 * high + low);
-    }
-    line->report_len = REPORT_MAX;
-    if (hex < line->used) {
-        const char *length = line->text + hex + 1;
-
-        if (strspn(length, "0123456789") != strlen(length) || *length == '\0' || strlen(length) > 9)
-            fail("not a length", number);
-        line->report_len = (size_t)strtoul(length, NULL, 10);
-    }
-}
-
-/* Prints number, row and the report's bytes in hex; an empty report leaves number and row. */
-static void print_answer(const struct line *line)
-{
-    uint8_t *report = memory(NULL, line->report_len);
-    struct second_answer answer;
-
-    memset(report, FILL, line->report_len);
-    answer = second_table(line->table, line->table_len, report, line->report_len);
-    printf("%u %u", (unsigned)answer.number, (unsigned)answer.row);
-    if (line->report_len > 0)
-        putchar(' ');
-    for (size_t n = 0; n < line->report_len; n++)
-        printf("%02x", report[n]);
-    putchar('\n');
-    free(report);
-}
-
-/* Prints a comment line as it is. */
-static void print_comment(const struct line *line)
-{
-    fwrite(line->text, 1, line->used, stdout);
-    putchar('\n');
-}
-
-/* Prints the listing. */
-static void print_listing(const struct line *line)
-{
-    uint8_t out[LISTING_MAX];
-    size_t used = second_listing(line->table, line->table_len, out, sizeof out);
-
-    fwrite(out, 1, used, stdout);
+    if (line->text[0] == '#')
+        puts(line->text);
+    else if (line->words == 3 && strcmp(line->word[0], "table") == 0)
+        answer_table(line, false);
+    else if (line->words == 3 && strcmp(line->word[0], "listing") == 0)
+        answer_table(line, true);
+    else if (line->words == 6 && strcmp(line->word[0], "rows") == 0) {
+        answer_rows(line, second_set);
+        answer_rows(line, second_point);
+    } else
+        fail(line, "not a line to answer");
 }
 
 /* Answers each line of the input. */
-int main(int argc, char **argv)
+int main(void)
 {
-    bool listing = argc == 2 && strcmp(argv[1], "listing") == 0;
-    struct line line = { 0 };
+    static struct line line;
 
-    if (argc > 1 && !listing) {
-        fprintf(stderr, "usage: answer [listing]\n");
-        return 2;
-    }
-    for (unsigned long number = 1; read_line(&line); number++) {
-        if (line.text[0] == '#') {
-            print_comment(&line);
-            continue;
-        }
-        take_line(&line, number);
-        if (listing)
-            print_listing(&line);
-        else
-            print_answer(&line);
-    }
-    free(line.text);
-    free(line.table);
+    while (read_line(&line))
+        answer_line(&line);
     return 0;
 }

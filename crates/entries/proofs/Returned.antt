@@ -16,8 +16,8 @@ use Rattle.placement.specs.Choice.{allowanceFit}
 use Rattle.placement.proofs.Fit.{allowance-fit-is-rule}
 use Rattle.records.specs.ListBytes.{numbersIn, BytesAnswered, not-fours, as-numbers}
 use Rattle.records.proofs.BytesAnswered.{bytes-answered-unique}
-use Rattle.service.proofs.Table.{table-answered-unique}
-use Rattle.entries.specs.Entry.{TableReturned, ListsReturned, SetReturned, PointReturned}
+use Rattle.service.proofs.Table.{table-answered-unique, listing-answered-unique}
+use Rattle.entries.specs.Entry.{TableReturned, ListsReturned, SetReturned, PointReturned, ListingReturned}
 
 -- what is returned has one number and one row
 number-and-row : {number other row other-row : ℕ} → returned number row ≡ returned other other-row → (number ≡ other) × (row ≡ other-row)
@@ -73,3 +73,10 @@ entries-agree cs ds ts responses allowances = (
   bytes-carry IsAllowance (λ rows i a. IsPointAllowance rows i (pos a)) cs ds ts responses allowances (λ returns Rs As p. services-agree (numbersIn cs) (numbersIn ds) (numbersIn ts) (numbersIn responses) (numbersIn allowances) .0 p),
   bytes-carry (λ rows i a. IsPointAllowance rows i (pos a)) IsAllowance cs ds ts responses allowances (λ returns Rs As p. services-agree (numbersIn cs) (numbersIn ds) (numbersIn ts) (numbersIn responses) (numbersIn allowances) .1 p),
 )
+
+-- THE LISTING ENTRY'S RESULT IS DETERMINED
+pub listing-returned-unique : {table listing : List ℕ} {written other : ℕ} {first second : List ℕ}
+    → ListingReturned table listing written first
+    → ListingReturned table listing other second
+    → (written ≡ other) × (first ≡ second)
+listing-returned-unique {table} p q = listing-answered-unique allowanceFit allowance-fit-is-rule table p q

@@ -8,7 +8,7 @@ use Rattle.theory.specs.Allowance.{IsAllowance}
 use Rattle.theory.specs.Points.{IsPointAllowance}
 use Rattle.placement.specs.Choice.{allowanceFit}
 use Rattle.records.specs.ListBytes.{BytesAnswered}
-use Rattle.service.specs.Table.{TableAnswered}
+use Rattle.service.specs.Table.{TableAnswered, ListingAnswered}
 
 -- the table entry on table bytes and a lent report: its number, its row, and the report at the end
 abbrev pub TableReturned : List ℕ → List ℕ → ℕ → ℕ → List ℕ → Type 0
@@ -26,3 +26,7 @@ SetReturned = ListsReturned IsAllowance
 -- the point entry: allowances by the point formula
 abbrev pub PointReturned : List ℕ → List ℕ → List ℕ → List ℕ → List ℕ → ℕ → ℕ → List ℕ → List ℕ → Type 0
 PointReturned = ListsReturned (λ rows i a. IsPointAllowance rows i (pos a))
+
+-- the listing entry on table bytes and a lent byte string: how many bytes it wrote, and that byte string at the end
+abbrev pub ListingReturned : List ℕ → List ℕ → ℕ → List ℕ → Type 0
+ListingReturned = ListingAnswered allowanceFit

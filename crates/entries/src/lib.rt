@@ -8,7 +8,7 @@ ghost use Rattle.answers.specs.Answer.{returnedBy, numberOf, rowOf};
 ghost use Rattle.theory.specs.Lists.{Answered};
 ghost use Rattle.records.specs.ListBytes.{BytesAnswered};
 ghost use Rattle.entries.specs.Lists.{RowBytes, allowanceBy, AnsweredInBytes};
-ghost use Rattle.entries.specs.Entry.{TableReturned, ListsReturned, SetReturned, PointReturned};
+ghost use Rattle.entries.specs.Entry.{TableReturned, ListsReturned, SetReturned, PointReturned, ListingReturned};
 use answers::Answer;
 
 // An answer as C takes it: its number and its row.
@@ -174,4 +174,12 @@ pub extern "C" fn hibalunduk_point(
     ensures { λ r. ⌜ PointReturned (now (c .entry)) (now (d .entry)) (now (t .entry)) (now (responses .entry)) (now (allowances .entry)) (r .number) (r .row) (now (responses .exit)) (now (allowances .exit)) ⌝ }
 {
     answer_for_c(AllowancesBy::Points, c, d, t, responses, allowances)
+}
+
+// The listing of a table: how many bytes were written; 0, and nothing is, where they do not fit.
+#[no_mangle]
+pub extern "C" fn hibalunduk_listing(table: &[u8], listing: &mut [u8]) -> usize
+    ensures { λ r. ⌜ ListingReturned (now (table .entry)) (now (listing .entry)) r (now (listing .exit)) ⌝ }
+{
+    tables::list_table(table, listing)
 }

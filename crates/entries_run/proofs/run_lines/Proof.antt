@@ -2,20 +2,20 @@
 use Prim.Native.Nat.{_≤_, _-_, _+_}
 use lib.ListN.{length}
 use borrow.Author.Needs.{needs}
-use Rattle.tables_run.proofs.run_lines.Statement.{statement}
-use Rattle.tables_run.proofs.run_lines.Tie as tie
+use Rattle.entries_run.proofs.run_lines.Statement.{statement}
+use Rattle.entries_run.proofs.run_lines.Tie as tie
 
 abbrev Inv-loop : tie.InvT-loop
-Inv-loop text at₀ t4 at = at ≤ length text + 1
+Inv-loop text at₀ at = at ≤ length text + 1
 
 abbrev μ-loop : tie.MeasureT-loop
-μ-loop text at₀ t4 at = length text + 1 - at
+μ-loop text at₀ at = length text + 1 - at
 
 loop-holds : tie.Need-loop-holds Inv-loop μ-loop
 loop-holds c = search needs
 
-find-requires : tie.Need-find-requires Inv-loop μ-loop
-find-requires c κs = search needs
+line-end-requires : tie.Need-line-end-requires Inv-loop μ-loop
+line-end-requires c κs = search needs
 
 sub-run-line : tie.Need-sub-run-line Inv-loop μ-loop
 sub-run-line c = search needs
@@ -29,15 +29,6 @@ part-run-line-end c = search needs
 run-line-requires : tie.Need-run-line-requires Inv-loop μ-loop
 run-line-requires c κs = search needs
 
-slice-aggregate-say : tie.Need-slice-aggregate-say Inv-loop μ-loop
-slice-aggregate-say c = search needs
-
-say-requires : tie.Need-say-requires Inv-loop μ-loop
-say-requires c κs = search needs
-
-returns : tie.Need-returns Inv-loop μ-loop
-returns c = search needs
-
 add-at : tie.Need-add-at Inv-loop μ-loop
 add-at c = search needs
 
@@ -47,8 +38,8 @@ loop-less c = search needs
 loop-again : tie.Need-loop-again Inv-loop μ-loop
 loop-again c = search needs
 
-returns-2 : tie.Need-returns-2 Inv-loop μ-loop
-returns-2 c = search needs
+returns : tie.Need-returns Inv-loop μ-loop
+returns c = search needs
 
 pub run-lines-spec : {M : Type 1} → statement M
 run-lines-spec =
@@ -57,15 +48,12 @@ run-lines-spec =
     Inv-loop
     μ-loop
     loop-holds
-    find-requires
+    line-end-requires
     sub-run-line
     part-run-line-start
     part-run-line-end
     run-line-requires
-    slice-aggregate-say
-    say-requires
-    returns
     add-at
     loop-less
     loop-again
-    returns-2)
+    returns)

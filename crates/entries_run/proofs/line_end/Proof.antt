@@ -1,15 +1,15 @@
--- `find` ends, and its place is from the given one on and in the text.
+-- `line_end` ends, and its place is from the given one on and in the text.
 use Prim.Native.Nat.{_≤_, _-_}
 use lib.ListN.{length}
 use borrow.Author.Needs.{needs}
-use Rattle.tables_run.proofs.find.Statement.{statement}
-use Rattle.tables_run.proofs.find.Tie as tie
+use Rattle.entries_run.proofs.line_end.Statement.{statement}
+use Rattle.entries_run.proofs.line_end.Tie as tie
 
 abbrev Inv-loop : tie.InvT-loop
-Inv-loop text from symbol at₀ at = (from ≤ at) × (at ≤ length text)
+Inv-loop text from at₀ at = (from ≤ at) × (at ≤ length text)
 
 abbrev μ-loop : tie.MeasureT-loop
-μ-loop text from symbol at₀ at = length text - at
+μ-loop text from at₀ at = length text - at
 
 loop-holds : tie.Need-loop-holds Inv-loop μ-loop
 loop-holds c = search needs
@@ -32,8 +32,8 @@ loop-again c = search needs
 returns-2 : tie.Need-returns-2 Inv-loop μ-loop
 returns-2 c = search needs
 
-pub find-spec : {M : Type 1} → statement M
-find-spec =
+pub line-end-spec : {M : Type 1} → statement M
+line-end-spec =
     tie.close
     (tie.spec
     Inv-loop

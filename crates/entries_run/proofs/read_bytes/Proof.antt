@@ -1,17 +1,21 @@
--- `read_hex` ends, reads two digits for each byte, and its sums are bytes. The loop's invariant: the bytes keep their length.
-use mathlib.Core.Path.{_≡_}
+-- `read_bytes` ends, its sums are bytes, and so many are at the front. The loop's invariant: the bytes keep their length.
+use mathlib.Core.Path.{_≡_, sym}
 use Prim.Native.Nat.{_≤_, _-_}
 use native.Mathlib.Omega.{arith}
 use lib.ListN.{length, length-set}
+use lib.Seq.{length-take-le}
 use borrow.Author.Needs.{needs}
-use Rattle.tables_run.proofs.read_hex.Statement.{statement}
-use Rattle.tables_run.proofs.read_hex.Tie as tie
+use Rattle.entries_run.proofs.read_bytes.Statement.{statement}
+use Rattle.entries_run.proofs.read_bytes.Tie as tie
 
 abbrev Inv-loop : tie.InvT-loop
-Inv-loop text bytes₀ j₀ bytes j = (length bytes ≡ length bytes₀) × (j ≤ length bytes)
+Inv-loop line spaces bytes₀ start n₀ bytes n = (length bytes ≡ length bytes₀) × (n ≤ length bytes)
 
 abbrev μ-loop : tie.MeasureT-loop
-μ-loop text bytes₀ j₀ bytes j = length bytes₀ - j
+μ-loop line spaces bytes₀ start n₀ bytes n = length bytes₀ - n
+
+word-requires : tie.Need-word-requires Inv-loop μ-loop
+word-requires c κs = search needs
 
 loop-holds : tie.Need-loop-holds Inv-loop μ-loop
 loop-holds c = search needs
@@ -19,8 +23,8 @@ loop-holds c = search needs
 mul-digit : tie.Need-mul-digit Inv-loop μ-loop
 mul-digit c = search needs
 
-shared-slice-read-digit : tie.Need-shared-slice-read-digit Inv-loop μ-loop
-shared-slice-read-digit c = search needs
+add-digit : tie.Need-add-digit Inv-loop μ-loop
+add-digit c = search needs
 
 digit-requires : tie.Need-digit-requires Inv-loop μ-loop
 digit-requires c κs = search needs
@@ -28,11 +32,11 @@ digit-requires c κs = search needs
 mul-digit-2 : tie.Need-mul-digit-2 Inv-loop μ-loop
 mul-digit-2 c = search needs
 
-add-digit : tie.Need-add-digit Inv-loop μ-loop
-add-digit c = search needs
+add-digit-2 : tie.Need-add-digit-2 Inv-loop μ-loop
+add-digit-2 c = search needs
 
-shared-slice-read-digit-2 : tie.Need-shared-slice-read-digit-2 Inv-loop μ-loop
-shared-slice-read-digit-2 c = search needs
+add-digit-3 : tie.Need-add-digit-3 Inv-loop μ-loop
+add-digit-3 c = search needs
 
 digit-requires-2 : tie.Need-digit-requires-2 Inv-loop μ-loop
 digit-requires-2 c κs = search needs
@@ -41,13 +45,13 @@ same-length : tie.Need-same-length Inv-loop μ-loop
 same-length c = search needs
 
 returns : tie.Need-returns Inv-loop μ-loop
-returns c = search needs
+returns c = (omega arith, sym (length-take-le _ _ (omega arith)))
 
 same-length-2 : tie.Need-same-length-2 Inv-loop μ-loop
 same-length-2 c = search needs
 
 returns-2 : tie.Need-returns-2 Inv-loop μ-loop
-returns-2 c = search needs
+returns-2 c = (omega arith, sym (length-take-le _ _ (omega arith)))
 
 mul-bytes : tie.Need-mul-bytes Inv-loop μ-loop
 mul-bytes c = search needs
@@ -58,8 +62,8 @@ add-bytes c = search needs
 slice-write-bytes : tie.Need-slice-write-bytes Inv-loop μ-loop
 slice-write-bytes c = search needs
 
-add-j : tie.Need-add-j Inv-loop μ-loop
-add-j c = search needs
+add-n : tie.Need-add-n Inv-loop μ-loop
+add-n c = search needs
 
 loop-less : tie.Need-loop-less Inv-loop μ-loop
 loop-less c = search needs
@@ -71,21 +75,22 @@ same-length-3 : tie.Need-same-length-3 Inv-loop μ-loop
 same-length-3 c = search needs
 
 returns-3 : tie.Need-returns-3 Inv-loop μ-loop
-returns-3 c = search needs
+returns-3 c = (omega arith, sym (length-take-le _ _ (omega arith)))
 
-pub read-hex-spec : {M : Type 1} → statement M
-read-hex-spec =
+pub read-bytes-spec : {M : Type 1} → statement M
+read-bytes-spec =
     tie.close
     (tie.spec
     Inv-loop
     μ-loop
+    word-requires
     loop-holds
     mul-digit
-    shared-slice-read-digit
+    add-digit
     digit-requires
     mul-digit-2
-    add-digit
-    shared-slice-read-digit-2
+    add-digit-2
+    add-digit-3
     digit-requires-2
     same-length
     returns
@@ -94,7 +99,7 @@ read-hex-spec =
     mul-bytes
     add-bytes
     slice-write-bytes
-    add-j
+    add-n
     loop-less
     loop-again
     same-length-3

@@ -2,14 +2,20 @@
 use Prim.Native.Nat.{_≤_, _-_}
 use lib.ListN.{length}
 use borrow.Author.Needs.{needs}
-use Rattle.tables_run.proofs.say_bytes.Statement.{statement}
-use Rattle.tables_run.proofs.say_bytes.Tie as tie
+use Rattle.entries_run.proofs.say_bytes.Statement.{statement}
+use Rattle.entries_run.proofs.say_bytes.Tie as tie
 
 abbrev Inv-loop : tie.InvT-loop
 Inv-loop bytes j₀ j = j ≤ length bytes
 
 abbrev μ-loop : tie.MeasureT-loop
 μ-loop bytes j₀ j = length bytes - j
+
+slice-aggregate-say : tie.Need-slice-aggregate-say Inv-loop μ-loop
+slice-aggregate-say c = search needs
+
+say-requires : tie.Need-say-requires Inv-loop μ-loop
+say-requires c κs = search needs
 
 loop-holds : tie.Need-loop-holds Inv-loop μ-loop
 loop-holds c = search needs
@@ -38,6 +44,8 @@ say-bytes-spec =
     (tie.spec
     Inv-loop
     μ-loop
+    slice-aggregate-say
+    say-requires
     loop-holds
     shared-slice-read-say-byte
     say-byte-requires
