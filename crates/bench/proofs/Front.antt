@@ -9,6 +9,6 @@ use Rattle.service.specs.Table.{Listed}
 
 -- the listing of the first 317 bytes is the listing of all
 pub listed-from-front : {rule : Rule} {lines : List ℕ} (bytes : List ℕ) → Listed rule (take 317 bytes) lines → Listed rule bytes lines
-listed-from-front bytes (Listed.not-a-table answer read) = Listed.not-a-table answer (sym (table-in-front bytes) ∙ read)
+listed-from-front bytes (Listed.not-a-table number row read) = Listed.not-a-table number row (sym (table-in-front bytes) ∙ read)
 listed-from-front bytes (Listed.no-core-takes t i read stopped) = Listed.no-core-takes t i (sym (table-in-front bytes) ∙ read) stopped
 listed-from-front bytes (Listed.accepted t all read certified) = Listed.accepted t all (sym (table-in-front bytes) ∙ read) certified

@@ -1,2 +1,3 @@
--- What the bench program has read.
+-- What the bench program has read, and what it prints.
 pub mod Input
+pub mod Lines

@@ -1,5 +1,8 @@
 // The bench program of document 01, "The listing": reads a table from standard input and prints its listing, or the line of its refusal.
+ghost use Prim.Native.Nat.{_≤_};
+ghost use lib.ListN.{length};
 ghost use Rattle.bench.specs.Input.{InFront};
+ghost use Rattle.bench.specs.Lines.{HasLines};
 use libc::STDIN_FILENO;
 use libc::STDOUT_FILENO;
 
@@ -28,11 +31,19 @@ fn read_input(buffer: &mut [u8]) -> Input
     Input::Bytes(n)
 }
 
-// Prints the listing of a table. No listing is longer than 1102 bytes.
+// The lines for a table, at the front of a text that has room for those of any (`always-written`); gives how many bytes they are.
+fn lines_of(table: &[u8], text: &mut [u8]) -> usize
+    requires { ⌜ 1102 ≤ length (now text) ⌝ }
+    ensures { λ r. ⌜ HasLines (now (table .entry)) (now (text .exit)) r ⌝ }
+{
+    tables::list_table(table, text)
+}
+
+// Prints the lines for a table.
 fn print_listing(table: &[u8]) {
-    let mut listing = [0u8; 1102];
-    let n = tables::list_table(table, &mut listing);
-    io::write_all(STDOUT_FILENO, &listing[..n]);
+    let mut text = [0u8; 1102];
+    let n = lines_of(table, &mut text);
+    io::write_all(STDOUT_FILENO, &text[..n]);
 }
 
 // No table is longer than 316 bytes, and the first 317 of any input tell what is printed (`listed-from-front`): input that is longer is refused as it would be

@@ -3,3 +3,4 @@ pub mod Header
 pub mod Decimal
 pub mod SystemAllowance
 pub mod RowLines
+pub mod Longest

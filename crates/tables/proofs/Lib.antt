@@ -3,3 +3,4 @@ pub mod Stages
 pub mod Reported
 pub mod Listed
 pub mod SameReport
+pub mod Longest
