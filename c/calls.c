@@ -10,15 +10,17 @@ static uint8_t pattern(size_t place)
     return (uint8_t)(0xA5 + 37 * place);
 }
 
-/* Fills both outputs with the pattern. */
+/* Fills both outputs with the pattern; nothing is answered or written. */
 static void fill(struct called *called)
 {
+    called->answer = (struct second_answer){ 0, 0 };
+    called->first_written = called->second_written = 0;
     for (size_t place = 0; place < OUTPUT_ROOM; place++)
         called->first[place] = called->second[place] = pattern(place);
 }
 
 /* Whether an output has the pattern from a place of what is lent to its end, and in the margin before. */
-bool kept_from(const uint8_t *output, size_t lent_from)
+static bool kept_from(const uint8_t *output, size_t lent_from)
 {
     for (size_t place = 0; place < OUTPUT_ROOM; place++)
         if ((place < MARGIN || place >= MARGIN + lent_from) && output[place] != pattern(place))
@@ -53,6 +55,18 @@ void call_table(table_service *service, const uint8_t *bytes, size_t len, size_t
 
     fill(called);
     called->answer = service(table, len, called->first + MARGIN, report_len);
+    if (called->answer.number == 0)
+        called->first_written = 4 + 23 * (len / 13);
+    called->read_kept = free_kept(table, bytes, len);
+}
+
+/* Calls a listing on a table and lent bytes of these lengths. */
+void call_listing(listing_service *service, const uint8_t *bytes, size_t len, size_t listing_len, struct called *called)
+{
+    uint8_t *table = exact(bytes, len);
+
+    fill(called);
+    called->first_written = service(table, len, called->first + MARGIN, listing_len);
     called->read_kept = free_kept(table, bytes, len);
 }
 
@@ -66,6 +80,8 @@ void call_lists(list_service *service, const struct lists *lists, struct called 
     fill(called);
     called->answer = service(c, lists->c_len, d, lists->d_len, t, lists->t_len, called->first + MARGIN,
                              lists->responses_len, called->second + MARGIN, lists->allowances_len);
+    if (called->answer.number == 0)
+        called->first_written = called->second_written = lists->c_len;
     c_kept = free_kept(c, lists->c, lists->c_len);
     d_kept = free_kept(d, lists->d, lists->d_len);
     t_kept = free_kept(t, lists->t, lists->t_len);
@@ -81,13 +97,14 @@ bool same_answer(struct second_answer one, struct second_answer other)
 /* Whether two calls left the same, every byte counted. */
 bool same_called(const struct called *one, const struct called *other)
 {
-    return same_answer(one->answer, other->answer) && memcmp(one->first, other->first, OUTPUT_ROOM) == 0 &&
+    return same_answer(one->answer, other->answer) && one->first_written == other->first_written &&
+           memcmp(one->first, other->first, OUTPUT_ROOM) == 0 &&
            memcmp(one->second, other->second, OUTPUT_ROOM) == 0 && one->read_kept == other->read_kept;
 }
 
-/* Whether a call left what it read as it was, and its outputs too where it was refused. */
+/* Whether a call left what it read as it was, and its outputs too but for what it has to write. */
 bool well_behaved(const struct called *called)
 {
-    return called->read_kept &&
-           (called->answer.number == 0 || (kept_from(called->first, 0) && kept_from(called->second, 0)));
+    return called->read_kept && kept_from(called->first, called->first_written) &&
+           kept_from(called->second, called->second_written);
 }

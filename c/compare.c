@@ -1,6 +1,8 @@
 /* Runs the product and the second program, two answers to document 01 that share no line, on the document's sheets and
  * on random cases, and a third opinion on small numbers too. Compares the answer, the row and every byte lent, and
- * stops at the first that differ. Arguments: seed, number of cases. Status 0: none differ; 1: some do. */
+ * stops at the first that differ. Arguments: seed, number of cases. Status 0: none differ, and every number that a service can
+ * give was given; 1: some do, or one was not; 2: an argument is no number. */
+#include "arguments.h"
 #include "brute.h"
 #include "programs.h"
 #include "sheets.h"
@@ -8,6 +10,8 @@
 #include <stdio.h>
 #include <stdlib.h>
 #include <string.h>
+
+enum { NUMBERS = 9 }; /* of answers: accepted and refusals 1 to 8 */
 
 /* Above these, the second program's walk with its repeats and the third opinion take long. */
 enum { WALKED_ROWS = 16, SMALL_TICKS = 60, SMALL_WORK = 400 };
@@ -18,16 +22,26 @@ struct kind {
     void (*draw)(struct rows *);
     void (*compare)(const struct rows *);
     unsigned once_in;
-    unsigned long drawn, compared, third, numbers[9];
+    unsigned long drawn, compared, third, numbers[NUMBERS];
 };
 
 #define KIND(kind, drawn_by, compared_by, times) \
     { .name = kind, .draw = drawn_by, .compare = compared_by, .once_in = times }
 
-static unsigned long seed, cases;
-static struct kind *current; /* the kind of the case at hand */
+/* A service: the numbers that it can give, and how often it gave them. A listing's number is that of its text. */
+struct service {
+    const char *name, *can_give;
+    unsigned long given[NUMBERS];
+};
 
-static const struct program third_program = { "the third opinion", brute_table, brute_set, brute_set };
+static struct run run;
+static struct kind *current; /* the kind of the case at hand */
+static struct service table_numbers = { .name = "table service", .can_give = "01234567" };
+static struct service set_numbers = { .name = "set service", .can_give = "03478" };
+static struct service point_numbers = { .name = "point service", .can_give = "03478" };
+static struct service listing_numbers = { .name = "listing", .can_give = "0123456" };
+
+static const struct program third_program = { "the third opinion", brute_table, brute_set, brute_set, NULL };
 
 /* ---- What differs ---- */
 
@@ -45,28 +59,52 @@ static void print_called(const char *name, const struct called *called, size_t f
 {
     printf("  %s: number %u row %u, what it read %s\n", name, (unsigned)called->answer.number,
            (unsigned)called->answer.row, called->read_kept ? "kept" : "changed");
-    print_bytes("report or response times, with margins", called->first, MARGIN + first_len + MARGIN);
+    print_bytes("report, listing or response times, with margins", called->first, MARGIN + first_len + MARGIN);
     print_bytes("allowances, with margins", called->second, MARGIN + second_len + MARGIN);
 }
 
 /* Says which case the difference is in. */
 static void print_case(const char *what)
 {
-    printf("differ: seed %lu, %s, case %lu of its kind: %s\n", seed, current->name, current->drawn, what);
+    printf("differ: seed %lu, %s, case %lu of its kind: %s\n", run.seed, current->name, current->drawn, what);
 }
 
 /* Ends the run at the first difference. */
 static void stop(void)
 {
-    printf("compare: %lu cases, 1 differ\n", cases);
+    printf("compare: %lu cases, 1 differ\n", run.cases);
     exit(1);
 }
 
-/* Counts a comparison with its answer. */
-static void count(const struct called *called)
+/* ---- What was reached ---- */
+
+/* Counts an input with the number of its answer. */
+static void count(uint32_t number)
 {
     current->compared++;
-    current->numbers[called->answer.number > 8 ? 8 : called->answer.number]++;
+    current->numbers[number]++;
+}
+
+/* Counts the number in the text of a listing. */
+static void count_listing(const struct called *called)
+{
+    const uint8_t *text = called->first + MARGIN;
+
+    if (called->first_written > 0)
+        listing_numbers.given[memcmp(text, "refused ", 8) == 0 ? text[8] - '0' : 0]++;
+}
+
+/* Says which numbers a service can give and never gave; gives how many. */
+static unsigned never_given(const struct service *service)
+{
+    unsigned never = 0;
+
+    for (const char *number = service->can_give; *number != '\0'; number++)
+        if (service->given[*number - '0'] == 0) {
+            printf("never reached: %s, number %c\n", service->name, *number);
+            never++;
+        }
+    return never;
 }
 
 /* ---- Tables ---- */
@@ -82,38 +120,61 @@ static bool small_table(const uint8_t *bytes, size_t len)
     return greatest <= SMALL_TICKS && rows * greatest <= SMALL_WORK;
 }
 
-/* Compares the product's call on a table with another program's. */
-static void against_table(const struct program *other, const struct called *ours, const uint8_t *bytes, size_t len,
-                          size_t report_len)
+/* Compares what the product left of a table with what another program left. */
+static void against_table(const char *what, const struct called *ours, const struct called *theirs,
+                          const uint8_t *bytes, size_t len, size_t lent_len)
 {
-    struct called theirs;
-    bool same;
-
-    call_table(other->table, bytes, len, report_len, &theirs);
-    same = same_called(ours, &theirs) && well_behaved(ours) &&
-           (ours->answer.number != 0 || kept_from(ours->first, 4 + 23 * ((len - 4) / 13)));
-    if (same)
+    if (same_called(ours, theirs) && well_behaved(ours))
         return;
-    print_case(other->name);
+    print_case(what);
     print_bytes("table", bytes, len);
-    printf("  report of %lu bytes\n", (unsigned long)report_len);
-    print_called(product_program.name, ours, report_len, 0);
-    print_called(other->name, &theirs, report_len, 0);
+    printf("  report or listing of %lu bytes\n", (unsigned long)lent_len);
+    print_called("the product", ours, lent_len, 0);
+    print_called("the other", theirs, lent_len, 0);
     stop();
+}
+
+/* A listing's length by turns: as needed, longer, one byte too short, none. */
+static size_t listing_length(size_t needed)
+{
+    switch (current->compared % 4) {
+    case 0: return needed;
+    case 1: return needed + 1 + below(29);
+    case 2: return needed - 1;
+    default: return 0;
+    }
+}
+
+/* Compares both listings of a table, into bytes for the listing that its report, where there is one, stands for. */
+static void compare_listing(const uint8_t *bytes, size_t len, const struct called *report)
+{
+    char text[LISTING_ROOM];
+    bool known = report->answer.number != 7;
+    size_t listing_len = known ? listing_length(listing_of(report, len / 13, text)) : LENT_ROOM;
+    struct called ours, theirs;
+
+    call_listing(product_program.listing, bytes, len, listing_len, &ours);
+    call_listing(second_program.listing, bytes, len, listing_len, &theirs);
+    against_table("listing, the second program", &ours, &theirs, bytes, len, listing_len);
+    count_listing(&ours);
 }
 
 /* Compares all programs on a table and a report of these lengths. */
 static void compare_table(const uint8_t *bytes, size_t len, size_t report_len)
 {
-    struct called ours;
+    struct called ours, theirs;
 
     call_table(product_program.table, bytes, len, report_len, &ours);
-    against_table(&second_program, &ours, bytes, len, report_len);
+    call_table(second_program.table, bytes, len, report_len, &theirs);
+    against_table("table, the second program", &ours, &theirs, bytes, len, report_len);
     if (small_table(bytes, len)) {
-        against_table(&third_program, &ours, bytes, len, report_len);
+        call_table(third_program.table, bytes, len, report_len, &theirs);
+        against_table("table, the third opinion", &ours, &theirs, bytes, len, report_len);
         current->third++;
     }
-    count(&ours);
+    compare_listing(bytes, len, &ours);
+    table_numbers.given[ours.answer.number]++;
+    count(ours.answer.number);
 }
 
 /* A length for what is lent: as needed, or a little more, or now and then less. */
@@ -222,11 +283,7 @@ static bool small_lists(const struct lists *lists)
 static void against_lists(const char *what, const struct called *ours, const struct called *theirs,
                           const struct lists *lists)
 {
-    bool same = same_called(ours, theirs) && well_behaved(ours) &&
-                (ours->answer.number != 0 ||
-                 (kept_from(ours->first, lists->c_len) && kept_from(ours->second, lists->c_len)));
-
-    if (same)
+    if (same_called(ours, theirs) && well_behaved(ours))
         return;
     print_case(what);
     print_bytes("C", lists->c, lists->c_len);
@@ -266,7 +323,9 @@ static void compare_lists(const struct lists *lists)
         against_lists("set, the third opinion", &set, &theirs, lists);
         current->third++;
     }
-    count(&set);
+    set_numbers.given[set.answer.number]++;
+    point_numbers.given[point.answer.number]++;
+    count(set.answer.number);
 }
 
 /* The lists of rows that were drawn for several cores: their C, where it is not above D, shared between these. */
@@ -352,7 +411,7 @@ static struct kind sheets = { .name = "sheets of document 01" };
 static struct kind kinds[] = {
     KIND("table: small numbers", small_rows, table_as_drawn, 1),
     KIND("table: ordinary", ordinary_rows, table_as_drawn, 1),
-    KIND("table: near the limits", limit_rows, table_as_drawn, 1),
+    KIND("table: near the limits", limit_rows, table_as_drawn, 4),
     KIND("table: rows break the limits", broken_rows, table_as_drawn, 1),
     KIND("table: equal deadlines", equal_deadlines, table_as_drawn, 1),
     KIND("table: equal utilisations", equal_utilisations, table_as_drawn, 1),
@@ -363,9 +422,9 @@ static struct kind kinds[] = {
     KIND("table: truncated", any_rows, table_truncated, 1),
     KIND("table: bytes after", any_rows, table_with_bytes_after, 1),
     KIND("table: wrong count", any_rows, table_miscounted, 1),
-    KIND("table: report lengths", small_rows, table_report_lengths, 1),
-    KIND("table: report lengths, any rows", any_rows, table_report_lengths, 10),
-    KIND("table: long climbs", long_climbs, table_as_drawn, 10),
+    KIND("table: report lengths", small_rows, table_report_lengths, 4),
+    KIND("table: report lengths, any rows", any_rows, table_report_lengths, 20),
+    KIND("table: long climbs", long_climbs, table_as_drawn, 20),
     KIND("table: long climbs of many rows", many_long_climbs, table_as_drawn, 50),
     KIND("table: long walks", long_walks, table_as_drawn, 10),
     KIND("lists: small numbers", small_rows, lists_as_drawn, 1),
@@ -377,10 +436,10 @@ static struct kind kinds[] = {
     KIND("lists: full core", full_cores, lists_as_drawn, 1),
     KIND("lists: short D, long T", urgent_rows, lists_as_drawn, 1),
     KIND("lists: damaged bytes", any_rows, lists_damaged, 1),
-    KIND("lists: lengths of C, D and T", any_rows, lists_of_lengths, 5),
-    KIND("lists: answer list lengths", small_rows, answer_lists_of_lengths, 2),
-    KIND("lists: long climbs", long_climbs, lists_as_drawn, 10),
-    KIND("lists: long walks", long_walks, lists_walked, 50),
+    KIND("lists: lengths of C, D and T", any_rows, lists_of_lengths, 20),
+    KIND("lists: answer list lengths", small_rows, answer_lists_of_lengths, 8),
+    KIND("lists: long climbs", long_climbs, lists_as_drawn, 20),
+    KIND("lists: long walks", long_walks, lists_walked, 100),
 };
 
 enum { KINDS = sizeof kinds / sizeof kinds[0] };
@@ -388,9 +447,10 @@ enum { KINDS = sizeof kinds / sizeof kinds[0] };
 /* Compares a sheet's call with the paper. */
 static void compare_sheet(bool holds, const struct called *called)
 {
-    count(called);
-    if (holds)
+    if (holds) {
+        count(called->answer.number);
         return;
+    }
     print_case("the paper");
     print_called(product_program.name, called, LENT_ROOM, LENT_ROOM);
     stop();
@@ -410,6 +470,7 @@ static void compare_sheets(void)
     for (size_t n = 0; n < TABLE_SHEETS; n++) {
         current->drawn++;
         compare_sheet(table_sheet_holds(n, product_program.table, &called), &called);
+        compare_sheet(listing_sheet_holds(n, product_program.listing, &called), &called);
     }
 }
 
@@ -418,8 +479,8 @@ static void compare_cases(void)
 {
     struct rows rows;
 
-    start_random(seed);
-    for (unsigned long n = 0, drawn = 0; drawn < cases; n++) {
+    start_random(run.seed);
+    for (unsigned long n = 0, drawn = 0; drawn < run.cases; n++) {
         current = &kinds[n % KINDS];
         if (n / KINDS % current->once_in != 0)
             continue;
@@ -440,22 +501,30 @@ static unsigned long print_kind(const struct kind *kind)
     return kind->compared;
 }
 
+/* Prints what came of each kind. */
+static void print_kinds(void)
+{
+    unsigned long compared = print_kind(&sheets);
+
+    for (size_t n = 0; n < KINDS; n++)
+        compared += print_kind(&kinds[n]);
+    printf("%lu inputs compared\n", compared);
+}
+
 /* Runs the sheets and the cases of a seed. */
 int main(int argc, char **argv)
 {
-    unsigned long compared;
+    unsigned never;
 
-    seed = argc > 1 ? strtoul(argv[1], NULL, 10) : 1;
-    cases = argc > 2 ? strtoul(argv[2], NULL, 10) : 5000;
-    printf("seed %lu, %lu cases; inputs compared, of these with a third opinion, and their answers\n", seed, cases);
+    run = read_arguments(argc, argv, "compare");
+    printf("seed %lu, %lu cases; inputs compared, of these with a third opinion, and their answers\n", run.seed, run.cases);
     compare_sheets();
     compare_cases();
     printf("%-32s%7s%9s%7s%9s%8s%8s%8s%8s%8s%8s%8s%8s\n", "kind", "cases", "inputs", "third", "accepted", "1", "2",
            "3", "4", "5", "6", "7", "8");
-    compared = print_kind(&sheets);
-    for (size_t n = 0; n < KINDS; n++)
-        compared += print_kind(&kinds[n]);
-    printf("%lu inputs compared\n", compared);
-    printf("compare: %lu cases, 0 differ\n", cases);
-    return 0;
+    print_kinds();
+    never = never_given(&table_numbers) + never_given(&set_numbers) + never_given(&point_numbers) +
+            never_given(&listing_numbers);
+    printf("compare: %lu cases, 0 differ, %u numbers never reached\n", run.cases, never);
+    return never == 0 ? 0 : 1;
 }

@@ -1,5 +1,5 @@
-/* A front end over the three services, and the example of how to call them: certifies the table in a file, then
- * gives each core's rows to the set service and the point service and says whether they agree with the report.
+/* A front end over the three services, and the example of how to call them: certifies the table in a file, prints its
+ * listing, then gives each core's rows to the set service and the point service and says whether they agree with the report.
  * Status 0: certified; 1: refused; 2: no file to read; 3: a service does not agree. */
 #include "hibalunduk.h"
 
@@ -26,12 +26,6 @@ typedef struct hibalunduk_answer list_service(const uint8_t *, size_t, const uin
                                               const uint8_t *, size_t, uint8_t *, size_t,
                                               uint8_t *, size_t);
 
-/* A number of four bytes, big-endian. */
-static uint32_t number_at(const uint8_t *bytes)
-{
-    return (uint32_t)bytes[0] << 24 | (uint32_t)bytes[1] << 16 | (uint32_t)bytes[2] << 8 | bytes[3];
-}
-
 /* The body of a row's kind 2 record in the report: C, D and T. */
 static const uint8_t *row_body(const struct certificate *certificate, size_t row)
 {
@@ -55,25 +49,21 @@ static bool read_table(const char *name, struct certificate *certificate)
     return !ferror(file) && (file == stdin || fclose(file) == 0);
 }
 
-/* Prints the report in hex, then the figures of each row and the system's allowance. */
+/* Prints the report in hex. */
 static void print_report(const struct certificate *certificate)
 {
-    uint32_t system = HIBALUNDUK_TICKS_MAX;
-
     printf("report ");
     for (size_t n = 0; n < 4 + 23 * certificate->rows; n++)
         printf("%02x", certificate->report[n]);
-    printf("\nrow core response allowance\n");
-    for (size_t row = 0; row < certificate->rows; row++) {
-        const uint8_t *figures = figures_body(certificate, row);
-        uint32_t allowance = number_at(figures + 5);
+    printf("\n");
+}
 
-        printf("%u %u %u %u\n", (unsigned)row + 1, (unsigned)figures[0], (unsigned)number_at(figures + 1),
-               (unsigned)allowance);
-        if (allowance < system)
-            system = allowance;
-    }
-    printf("system %u\n", (unsigned)system);
+/* Prints the table's listing, or the line of its refusal. */
+static void print_listing(const struct certificate *certificate)
+{
+    uint8_t listing[HIBALUNDUK_LISTING_MAX];
+
+    fwrite(listing, 1, hibalunduk_listing(certificate->table, certificate->table_len, listing, sizeof listing), stdout);
 }
 
 /* Gathers the rows that the report puts on a core, in table order. */
@@ -139,10 +129,11 @@ int main(int argc, char **argv)
     answer = hibalunduk_table(certificate.table, certificate.table_len, certificate.report,
                               sizeof certificate.report);
     if (answer.number != 0) {
-        printf("refused %u row %u\n", (unsigned)answer.number, (unsigned)answer.row);
+        print_listing(&certificate);
         return 1;
     }
     certificate.rows = (certificate.table_len - 4) / ROW_RECORD;
     print_report(&certificate);
+    print_listing(&certificate);
     return print_cores(&certificate) ? 0 : 3;
 }

@@ -1,4 +1,5 @@
-/* Hibalunduk for programs in C: the three services of document 01, which decides where this page is short.
+/* Hibalunduk for programs in C: the three services of document 01 and the listing. The document decides where this page is
+ * short.
  *
  * A table has rows, numbered from 1, each with an execution time C, a deadline D and a period T in whole ticks,
  * 1 <= C <= D <= T <= 1,000,000. The services say on which core a row goes, its response time, and its
@@ -15,8 +16,8 @@
  * - The answer and the bytes written depend on nothing but the arguments. There is nothing to initialise, nothing
  *   is kept between calls, nothing is allocated. The library has no data of its own and needs of C's nothing but
  *   memcpy and memset. Any number of threads may call at once.
- * - Nothing is written but the report or the two answer lists, and of those only the bytes named below. The others
- *   keep their content.
+ * - Nothing is written but the report, the two answer lists or the listing, and of those only the bytes named below. The
+ *   others keep their content.
  * - A refused call writes nothing.
  * - It takes less than 16 KiB of stack (measured).
  * - A call takes as long as is said below (measured, on a processor of 2 GHz; c/benchmark measures it anew).
@@ -40,7 +41,8 @@ enum {
     HIBALUNDUK_TICKS_MAX = 1000000,
     HIBALUNDUK_TABLE_MAX = 2 + 13 * HIBALUNDUK_ROWS_MAX + 2, /* bytes of a table of 24 rows */
     HIBALUNDUK_REPORT_MAX = 4 + 23 * HIBALUNDUK_ROWS_MAX,    /* bytes of its report */
-    HIBALUNDUK_LIST_MAX = 4 * HIBALUNDUK_ROWS_MAX            /* bytes of a list of 24 numbers */
+    HIBALUNDUK_LIST_MAX = 4 * HIBALUNDUK_ROWS_MAX,           /* bytes of a list of 24 numbers */
+    HIBALUNDUK_LISTING_MAX = 1102                            /* bytes that hold every listing */
 };
 
 /* An answer: number 0 and row 0 when accepted, else the refusal's number, and its row or 0.
@@ -107,6 +109,18 @@ struct hibalunduk_answer hibalunduk_point(const uint8_t *c, size_t c_len,
                                           const uint8_t *t, size_t t_len,
                                           uint8_t *responses, size_t responses_len,
                                           uint8_t *allowances, size_t allowances_len);
+
+/* The listing of a table, in text: the line `row core response allowance`, a line with these four decimal numbers for each
+ * row in table order, and the line `system` with the system's allowance, the smallest of all. Of a table that is refused it
+ * is the line `refused N row R`, with number and row of the table service's answer, never 7. Each line ends in a newline;
+ * no byte 0 follows.
+ *
+ * Gives how many bytes it wrote at the front of `listing`; 0, and nothing is written, where they do not fit.
+ * HIBALUNDUK_LISTING_MAX bytes are always enough.
+ *
+ * Time: that of the table service.
+ */
+size_t hibalunduk_listing(const uint8_t *table, size_t table_len, uint8_t *listing, size_t listing_len);
 
 #ifdef __cplusplus
 }

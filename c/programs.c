@@ -1,4 +1,4 @@
-/* The product and the second program, each as three services in the second program's form. */
+/* The product and the second program, each as three services and the listing in the second program's form. */
 #include "programs.h"
 
 #include "hibalunduk.h"
@@ -33,5 +33,7 @@ static struct second_answer product_point(const uint8_t *c, size_t c_len, const 
                                      allowances_len));
 }
 
-const struct program product_program = { "the product", product_table, product_set, product_point };
-const struct program second_program = { "the second program", second_table, second_set, second_point };
+const struct program product_program = { "the product", product_table, product_set, product_point,
+                                         hibalunduk_listing };
+const struct program second_program = { "the second program", second_table, second_set, second_point,
+                                        second_listing };

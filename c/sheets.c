@@ -56,8 +56,7 @@ bool set_sheet_holds(size_t sheet, list_service *service, struct called *called)
     lists.responses_len += 3;
     lists.allowances_len += 5;
     call_lists(service, &lists, called);
-    holds = same_answer(called->answer, paper->answer) && well_behaved(called) &&
-            kept_from(called->first, written) && kept_from(called->second, written);
+    holds = same_answer(called->answer, paper->answer) && well_behaved(called);
     for (size_t n = 0; n < written / 4; n++)
         holds = holds && get_number(called->first + MARGIN + 4 * n) == paper->responses[n] &&
                 get_number(called->second + MARGIN + 4 * n) == paper->allowances[n];
@@ -78,19 +77,20 @@ bool table_sheet_holds(size_t sheet, table_service *service, struct called *call
     if (!same_answer(called->answer, paper->answer) || !well_behaved(called) || strcmp(text, paper->listing) != 0)
         return false;
     return called->answer.number != 0 ||
-           (kept_from(called->first, report_len) && memcmp(report, bytes, len - 2) == 0 &&
+           (memcmp(report, bytes, len - 2) == 0 &&
             memcmp(report + report_len - 2, bytes + len - 2, 2) == 0);
 }
 
-/* Whether the second program lists a sheet's table as the paper does. */
-bool listing_sheet_holds(size_t sheet)
+/* Whether a table is listed as the paper does, into lent bytes with three to spare. */
+bool listing_sheet_holds(size_t sheet, listing_service *service, struct called *called)
 {
     const struct table_sheet *paper = &table_sheets[sheet];
-    uint8_t bytes[TABLE_ROOM], out[LISTING_ROOM];
+    uint8_t bytes[TABLE_ROOM];
     size_t len = table_bytes(&paper->rows, bytes), listed = strlen(paper->listing);
 
-    return second_listing(bytes, paper->empty ? 0 : len, out, sizeof out) == listed &&
-           memcmp(out, paper->listing, listed) == 0;
+    call_listing(service, bytes, paper->empty ? 0 : len, listed + 3, called);
+    return called->first_written == listed && memcmp(called->first + MARGIN, paper->listing, listed) == 0 &&
+           well_behaved(called);
 }
 
 /* The listing that a call of a table service stands for, by its answer and its report; gives its bytes. */

@@ -10,8 +10,9 @@ enum { SET_SHEETS = 7, TABLE_SHEETS = 9, LISTING_ROOM = 1024 };
 bool set_sheet_holds(size_t sheet, list_service *service, struct called *called);
 bool table_sheet_holds(size_t sheet, table_service *service, struct called *called);
 
-/* Listings. */
-bool listing_sheet_holds(size_t sheet);
+bool listing_sheet_holds(size_t sheet, listing_service *service, struct called *called);
+
+/* The listing that a call of a table service stands for, by its answer and its report; gives its bytes. */
 size_t listing_of(const struct called *called, size_t rows, char *text);
 
 #endif
