@@ -1,5 +1,6 @@
-/* Answers lines from standard input by the second program, or (argument `product`) by the product, as crates/entries_run
- * does; the forms of a line stand there, and a line that has none of them ends the run with status 2. */
+/* Answers lines from standard input by the second program, or (argument `product`) by the product, as
+ * crates/entries_run does; the forms of a line stand there, and a line that has none of them ends the run with
+ * status 2. */
 #include "programs.h"
 
 #include <stdio.h>
