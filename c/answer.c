@@ -1,8 +1,8 @@
-/* Answers lines from standard input by the second program, as crates/entries_run answers them by the entries for C; the
- * forms of a line stand there, and a line that has none of them ends the run with status 2. */
-#include "second.h"
+/* Answers lines from standard input by the second program, or (argument `product`) by the product, as
+ * crates/entries_run does; the forms of a line stand there, and a line that has none of them ends the run with
+ * status 2. */
+#include "programs.h"
 
-#include <stdbool.h>
 #include <stdio.h>
 #include <stdlib.h>
 #include <string.h>
@@ -22,8 +22,7 @@ struct line {
     size_t words;
 };
 
-typedef struct second_answer list_service(const uint8_t *, size_t, const uint8_t *, size_t, const uint8_t *, size_t,
-                                          uint8_t *, size_t, uint8_t *, size_t);
+static const struct program *program = &second_program;
 
 /* Ends the run at a line that cannot be answered. */
 static void fail(const struct line *line, const char *message)
@@ -92,9 +91,9 @@ static void answer_table(const struct line *line, bool listing)
     read_bytes(line, 1, &table);
     lend(line, 2, &lent);
     if (listing)
-        printf("%lu", (unsigned long)second_listing(table.of, table.len, lent.of, lent.len));
+        printf("%lu", (unsigned long)program->listing(table.of, table.len, lent.of, lent.len));
     else
-        print_answer(second_table(table.of, table.len, lent.of, lent.len));
+        print_answer(program->table(table.of, table.len, lent.of, lent.len));
     print_bytes(&lent);
     putchar('\n');
 }
@@ -148,17 +147,23 @@ static void answer_line(const struct line *line)
     else if (line->words == 3 && strcmp(line->word[0], "listing") == 0)
         answer_table(line, true);
     else if (line->words == 6 && strcmp(line->word[0], "rows") == 0) {
-        answer_rows(line, second_set);
-        answer_rows(line, second_point);
+        answer_rows(line, program->set);
+        answer_rows(line, program->point);
     } else
         fail(line, "not a line to answer");
 }
 
 /* Answers each line of the input. */
-int main(void)
+int main(int argc, char **argv)
 {
     static struct line line;
 
+    if (argc > 2 || (argc == 2 && strcmp(argv[1], "product") != 0)) {
+        fprintf(stderr, "usage: answer [product]\n");
+        return 2;
+    }
+    if (argc == 2)
+        program = &product_program;
     while (read_line(&line))
         answer_line(&line);
     return 0;

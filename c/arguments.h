@@ -6,7 +6,8 @@ struct run {
     unsigned long seed, cases;
 };
 
-/* Reads PROGRAM [SEED [CASES]]; where a word is no number, or the cases are none, says how to start it and ends with status 2. */
+/* Reads [SEED [CASES]]; where a word is no number, or there are 0 cases, says how to start the program and ends it with
+ * status 2. */
 struct run read_arguments(int argc, char **argv, const char *program);
 
 #endif

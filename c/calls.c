@@ -61,7 +61,8 @@ void call_table(table_service *service, const uint8_t *bytes, size_t len, size_t
 }
 
 /* Calls a listing on a table and lent bytes of these lengths. */
-void call_listing(listing_service *service, const uint8_t *bytes, size_t len, size_t listing_len, struct called *called)
+void call_listing(listing_service *service, const uint8_t *bytes, size_t len, size_t listing_len,
+                  struct called *called)
 {
     uint8_t *table = exact(bytes, len);
 

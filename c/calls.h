@@ -14,8 +14,8 @@ typedef struct second_answer list_service(const uint8_t *, size_t, const uint8_t
                                           uint8_t *, size_t);
 typedef size_t listing_service(const uint8_t *, size_t, uint8_t *, size_t);
 
-/* What a call leaves: its answer; a report, a listing or response times; allowances; how many bytes of these it has to write,
- * or says that it wrote; and whether what it read is as it was. */
+/* What a call leaves: its answer; a report, a listing or response times; allowances; how many bytes of these it has to
+ * write, or says that it wrote; and whether what it read is as it was. */
 struct called {
     struct second_answer answer;
     uint8_t first[OUTPUT_ROOM], second[OUTPUT_ROOM];
@@ -25,7 +25,8 @@ struct called {
 
 /* Calls on bytes of exactly their length; outputs are filled with a pattern before. A listing's answer is 0. */
 void call_table(table_service *service, const uint8_t *bytes, size_t len, size_t report_len, struct called *called);
-void call_listing(listing_service *service, const uint8_t *bytes, size_t len, size_t listing_len, struct called *called);
+void call_listing(listing_service *service, const uint8_t *bytes, size_t len, size_t listing_len,
+                  struct called *called);
 void call_lists(list_service *service, const struct lists *lists, struct called *called);
 
 /* What a call left. */

@@ -1,7 +1,7 @@
 /* Runs the product and the second program, two answers to document 01 that share no line, on the document's sheets and
  * on random cases, and a third opinion on small numbers too. Compares the answer, the row and every byte lent, and
- * stops at the first that differ. Arguments: seed, number of cases. Status 0: none differ, and every number that a service can
- * give was given; 1: some do, or one was not; 2: an argument is no number. */
+ * stops at the first that differ. Arguments: seed, number of cases. Status 0: none differ, and every number that a
+ * service can give was given; 1: some do, or one was not; 2: an argument is no number. */
 #include "arguments.h"
 #include "brute.h"
 #include "programs.h"
@@ -57,8 +57,8 @@ static void print_bytes(const char *name, const uint8_t *bytes, size_t len)
 /* Prints what a call left, with the margins. */
 static void print_called(const char *name, const struct called *called, size_t first_len, size_t second_len)
 {
-    printf("  %s: number %u row %u, what it read %s\n", name, (unsigned)called->answer.number,
-           (unsigned)called->answer.row, called->read_kept ? "kept" : "changed");
+    printf("  %s: number %u row %u, %lu bytes to write, what it read %s\n", name, (unsigned)called->answer.number,
+           (unsigned)called->answer.row, (unsigned long)called->first_written, called->read_kept ? "kept" : "changed");
     print_bytes("report, listing or response times, with margins", called->first, MARGIN + first_len + MARGIN);
     print_bytes("allowances, with margins", called->second, MARGIN + second_len + MARGIN);
 }
@@ -517,7 +517,8 @@ int main(int argc, char **argv)
     unsigned never;
 
     run = read_arguments(argc, argv, "compare");
-    printf("seed %lu, %lu cases; inputs compared, of these with a third opinion, and their answers\n", run.seed, run.cases);
+    printf("seed %lu, %lu cases; inputs compared, of these with a third opinion, and their answers\n", run.seed,
+           run.cases);
     compare_sheets();
     compare_cases();
     printf("%-32s%7s%9s%7s%9s%8s%8s%8s%8s%8s%8s%8s%8s\n", "kind", "cases", "inputs", "third", "accepted", "1", "2",

@@ -1,5 +1,6 @@
-/* A front end over the three services, and the example of how to call them: certifies the table in a file, prints its
- * listing, then gives each core's rows to the set service and the point service and says whether they agree with the report.
+/* A front end over the three services and the listing, and the example of how to call them: certifies the table in a
+ * file, prints its listing, then gives each core's rows to the set service and the point service and says whether they
+ * agree with the report.
  * Status 0: certified; 1: refused; 2: no file to read; 3: a service does not agree. */
 #include "hibalunduk.h"
 

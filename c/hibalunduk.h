@@ -1,5 +1,5 @@
-/* Hibalunduk for programs in C: the three services of document 01 and the listing. The document decides where this page is
- * short.
+/* Hibalunduk for programs in C: the three services of document 01 and the listing. The document decides where this page
+ * is short.
  *
  * A table has rows, numbered from 1, each with an execution time C, a deadline D and a period T in whole ticks,
  * 1 <= C <= D <= T <= 1,000,000. The services say on which core a row goes, its response time, and its
@@ -110,10 +110,10 @@ struct hibalunduk_answer hibalunduk_point(const uint8_t *c, size_t c_len,
                                           uint8_t *responses, size_t responses_len,
                                           uint8_t *allowances, size_t allowances_len);
 
-/* The listing of a table, in text: the line `row core response allowance`, a line with these four decimal numbers for each
- * row in table order, and the line `system` with the system's allowance, the smallest of all. Of a table that is refused it
- * is the line `refused N row R`, with number and row of the table service's answer, never 7. Each line ends in a newline;
- * no byte 0 follows.
+/* The listing of a table, in text: the line `row core response allowance`, a line with these four decimal numbers for
+ * each row in table order, and the line `system` with the system's allowance, the smallest of all. Of a table that is
+ * refused it is the line `refused N row R`, with the number and the row that the table service gives where the report
+ * is long enough. Each line ends in a newline; no byte 0 follows.
  *
  * Gives how many bytes it wrote at the front of `listing`; 0, and nothing is written, where they do not fit.
  * HIBALUNDUK_LISTING_MAX bytes are always enough.

@@ -52,6 +52,14 @@ fn say_answer(answer: EntryAnswer) {
     say_number(answer.row as usize);
 }
 
+// The symbol at a place of a line; 0 beyond its end.
+fn symbol(line: &[u8], at: usize) -> u8 {
+    if at < line.len() {
+        return line[at];
+    }
+    0
+}
+
 // The place behind so many spaces of a line, or its end.
 fn word(line: &[u8], spaces: usize) -> usize
     ensures { λ r. ⌜ r ≤ length (now (line .entry)) ⌝ }
@@ -81,16 +89,6 @@ fn value(symbol: u8) -> u8
     }
 }
 
-// The value of the hex digit at a place of a line; 16 where there is none.
-fn digit(line: &[u8], at: usize) -> u8
-    ensures { λ r. ⌜ r ≤ 16 ⌝ }
-{
-    if at < line.len() {
-        return value(line[at]);
-    }
-    16
-}
-
 // Reads a word of a line, bytes in hex; gives how many.
 fn read_bytes(line: &[u8], spaces: usize, bytes: &mut [u8]) -> usize
     requires { ⌜ length (now bytes) ≤ 1200 ⌝ }
@@ -99,8 +97,8 @@ fn read_bytes(line: &[u8], spaces: usize, bytes: &mut [u8]) -> usize
     let start = word(line, spaces);
     let mut n = 0;
     while n < bytes.len() {
-        let high = digit(line, start + 2 * n);
-        let low = digit(line, start + 2 * n + 1);
+        let high = value(symbol(line, start + 2 * n));
+        let low = value(symbol(line, start + 2 * n + 1));
         if 15 < high {
             return n;
         }
@@ -126,7 +124,7 @@ fn read_number(line: &[u8], spaces: usize) -> usize
     let mut number = 0;
     let mut at = word(line, spaces);
     while at < line.len() {
-        let next = wide(digit(line, at));
+        let next = wide(value(line[at]));
         if 9 < next {
             return number;
         }
@@ -146,18 +144,11 @@ fn read_length(line: &[u8], spaces: usize, bytes: &[u8]) -> usize
     io::count(read_number(line, spaces) as isize, bytes)
 }
 
-// Room for what is read.
-fn space() -> [u8; 1200]
+// Room for what is read or lent, all of it one byte.
+fn filled(byte: u8) -> [u8; 1200]
     ensures { λ r. ⌜ 1200 ≡ length r ⌝ }
 {
-    [0; 1200]
-}
-
-// Room for what is lent, with its bytes before the call.
-fn lent_space() -> [u8; 1200]
-    ensures { λ r. ⌜ 1200 ≡ length r ⌝ }
-{
-    [0xa5; 1200]
+    [byte; 1200]
 }
 
 // The table service or the listing, and the lent bytes after it.
@@ -173,8 +164,8 @@ fn answer_table(table: &[u8], lent: &mut [u8], listing: bool) {
 
 // A line with a table.
 fn run_table(line: &[u8], listing: bool) {
-    let mut table = space();
-    let mut lent = lent_space();
+    let mut table = filled(0);
+    let mut lent = filled(0xa5);
     let n = read_bytes(line, 1, &mut table);
     let length = read_length(line, 2, &lent);
     answer_table(&table[..n], &mut lent[..length], listing);
@@ -200,8 +191,8 @@ fn answer_rows(
 
 // The same on rows, with lent bytes as many as their line says.
 fn lend_for_rows(c: &[u8], d: &[u8], t: &[u8], line: &[u8], points: bool) {
-    let mut responses = lent_space();
-    let mut allowances = lent_space();
+    let mut responses = filled(0xa5);
+    let mut allowances = filled(0xa5);
     let r = read_length(line, 4, &responses);
     let a = read_length(line, 5, &allowances);
     answer_rows(c, d, t, &mut responses[..r], &mut allowances[..a], points);
@@ -209,26 +200,18 @@ fn lend_for_rows(c: &[u8], d: &[u8], t: &[u8], line: &[u8], points: bool) {
 
 // A line with rows.
 fn run_rows(line: &[u8], points: bool) {
-    let mut c = space();
-    let mut d = space();
-    let mut t = space();
+    let mut c = filled(0);
+    let mut d = filled(0);
+    let mut t = filled(0);
     let cs = read_bytes(line, 1, &mut c);
     let ds = read_bytes(line, 2, &mut d);
     let ts = read_bytes(line, 3, &mut t);
     lend_for_rows(&c[..cs], &d[..ds], &t[..ts], line, points);
 }
 
-// The first letter of a line; 0 where there is none.
-fn first(line: &[u8]) -> u8 {
-    if line.len() == 0 {
-        return 0;
-    }
-    line[0]
-}
-
 // A line, by its first letter.
 fn run_line(line: &[u8]) {
-    match first(line) {
+    match symbol(line, 0) {
         b't' => run_table(line, false),
         b'l' => run_table(line, true),
         b'r' => {

@@ -20,26 +20,32 @@ word-requires c κs = search needs
 loop-holds : tie.Need-loop-holds Inv-loop μ-loop
 loop-holds c = search needs
 
-mul-digit : tie.Need-mul-digit Inv-loop μ-loop
-mul-digit c = search needs
+mul-symbol : tie.Need-mul-symbol Inv-loop μ-loop
+mul-symbol c = search needs
 
-add-digit : tie.Need-add-digit Inv-loop μ-loop
-add-digit c = search needs
+add-symbol : tie.Need-add-symbol Inv-loop μ-loop
+add-symbol c = search needs
 
-digit-requires : tie.Need-digit-requires Inv-loop μ-loop
-digit-requires c κs = search needs
+symbol-requires : tie.Need-symbol-requires Inv-loop μ-loop
+symbol-requires c κs = search needs
 
-mul-digit-2 : tie.Need-mul-digit-2 Inv-loop μ-loop
-mul-digit-2 c = search needs
+value-requires : tie.Need-value-requires Inv-loop μ-loop
+value-requires c κs = search needs
 
-add-digit-2 : tie.Need-add-digit-2 Inv-loop μ-loop
-add-digit-2 c = search needs
+mul-symbol-2 : tie.Need-mul-symbol-2 Inv-loop μ-loop
+mul-symbol-2 c = search needs
 
-add-digit-3 : tie.Need-add-digit-3 Inv-loop μ-loop
-add-digit-3 c = search needs
+add-symbol-2 : tie.Need-add-symbol-2 Inv-loop μ-loop
+add-symbol-2 c = search needs
 
-digit-requires-2 : tie.Need-digit-requires-2 Inv-loop μ-loop
-digit-requires-2 c κs = search needs
+add-symbol-3 : tie.Need-add-symbol-3 Inv-loop μ-loop
+add-symbol-3 c = search needs
+
+symbol-requires-2 : tie.Need-symbol-requires-2 Inv-loop μ-loop
+symbol-requires-2 c κs = search needs
+
+value-requires-2 : tie.Need-value-requires-2 Inv-loop μ-loop
+value-requires-2 c κs = search needs
 
 same-length : tie.Need-same-length Inv-loop μ-loop
 same-length c = search needs
@@ -85,13 +91,15 @@ read-bytes-spec =
     μ-loop
     word-requires
     loop-holds
-    mul-digit
-    add-digit
-    digit-requires
-    mul-digit-2
-    add-digit-2
-    add-digit-3
-    digit-requires-2
+    mul-symbol
+    add-symbol
+    symbol-requires
+    value-requires
+    mul-symbol-2
+    add-symbol-2
+    add-symbol-3
+    symbol-requires-2
+    value-requires-2
     same-length
     returns
     same-length-2
