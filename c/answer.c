@@ -1,6 +1,13 @@
-/* Answers lines from standard input by the second program, or (argument `product`) by the product, as
- * crates/entries_run does; the forms of a line stand there, and a line that has none of them ends the run with
- * status 2. */
+/* Makes the calls that the lines of standard input are, by the second program or (argument `product`) by the product, and
+ * prints what they return and what is lent at the end. samples/calls has such lines. Byte strings are in lowercase hex.
+ *
+ *     table TABLE LENGTH           the table service, with a report of so many bytes
+ *     rows C D T LENGTH LENGTH     the set service, then the point service, with response times and allowances of so many
+ *     listing TABLE LENGTH         the listing, into so many bytes
+ *
+ * Printed are number and row, or for the listing how many bytes were written, and then the lent bytes; these are a5 before
+ * the call. A line that begins with # is printed as it is. No byte string has more than 1200 bytes. A line that has none
+ * of these forms ends the run with status 2. */
 #include "programs.h"
 
 #include <stdio.h>
