@@ -4,6 +4,7 @@ use Rattle.theory.specs.Returned.{Returned, returned}
 use Rattle.answers.specs.declared.Answer.{Answer}
 use Rattle.answers.specs.declared.Answer.the-variants.{Accepted, RecordsBroken, CoresOutOfRange, RowsOutOfRange, RowBreaksLimits, CountDiffers, NoCoreTakes, OutputTooShort, RowMisses}
 
+-- number and row of each case
 abbrev pub returnedBy : Answer → Returned
 returnedBy Accepted = returned 0 0
 returnedBy RecordsBroken = returned 1 0

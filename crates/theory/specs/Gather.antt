@@ -1,5 +1,5 @@
 -- Words for numbers and lists of numbers that the definitions of document 01 share: an order with a rule for ties, places, those that pass a
--- test, a sum, a list in an order.
+-- test, a sum, what holds of each, a list in an order.
 use Prim.Native.Nat.{ℕ, zero, suc, _+_}
 use mathlib.Core.Bool.{Bool, true, false, _&&_, _||_}
 use mathlib.Core.List.{List, [], _∷_}
