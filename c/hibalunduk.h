@@ -18,7 +18,7 @@
  *   memcpy and memset. Any number of threads may call at once.
  * - Nothing is written but the report, the two answer lists or the listing, and of those only the bytes named below. The
  *   others keep their content.
- * - A refused call writes nothing.
+ * - A refused call writes nothing. (The listing of a table that is refused is a line that says so.)
  * - It takes less than 16 KiB of stack (measured).
  * - A call takes as long as is said below (measured, on a processor of 2 GHz; c/benchmark measures it anew).
  *

@@ -1,15 +1,15 @@
 -- No listing is longer than 1102 bytes where no number has more than ten digits: 28 for the header, 44 for each of 24 rows, 18 for the last line. Nor is it empty.
-use mathlib.Core.Path.{_≡_, refl, ap, subst}
+use mathlib.Core.Path.{_≡_, refl, subst}
 use Prim.Native.Nat.{ℕ, zero, suc, _+_, _*_, _/_, _^_, _≤_, _<_, suc-le-suc}
 use mathlib.Core.Bool.{Bool, true, false}
-use mathlib.Core.List.{List, [], _∷_, _++_}
+use mathlib.Core.List.{List, [], _∷_}
 use native.Mathlib.Nat.{pow-suc}
 use native.Mathlib.Omega.{arith}
 use lib.Dec.{ltb}
 use lib.ListN.{length, length-append}
 use borrow.Author.Tests.{ltb-true, ltb-false}
 use Rattle.placement.specs.Figures.{Figures, figuresAt}
-use Rattle.listing.specs.Listing.{ascii, headerLine, decimal, rowLine, rowLines, systemAllowance, listing, refusal}
+use Rattle.listing.specs.Listing.{ascii, decimal, rowLine, rowLines, systemAllowance, listing, refusal}
 use Rattle.listing.proofs.Header.{header-line-length}
 use Rattle.listing.proofs.Decimal.{decimal-one-digit, decimal-more-digits}
 use Rattle.listing.proofs.SystemAllowance.{system-allowance-smallest}

@@ -1,7 +1,7 @@
 // The checks of lists before any climb: refusals 3, 4 and 7 of document 01, in this order.
 ghost use mathlib.Core.Path.{_≡_};
 ghost use Prim.Native.Nat.{ℕ, _≤_, _<_};
-ghost use lib.ListN.{length, getD};
+ghost use lib.ListN.{length};
 ghost use Rattle.theory.specs.Row.{withinLimits, WithinLimits, rowAt};
 ghost use Rattle.theory.specs.Lists.{Shaped, rowsOf};
 ghost use Rattle.refusals.specs.Checked.{Checked};

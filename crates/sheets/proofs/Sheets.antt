@@ -1,16 +1,15 @@
 -- THE SHEETS HOLD: one computed test over the whole list, and one law that turns the test into what each sheet says.
 use mathlib.Core.Path.{_≡_, subst, sym}
 use Prim.Native.Nat.{suc, _-_, _%_}
-use mathlib.Core.Bool.{_&&_, _||_, not}
+use mathlib.Core.Bool.{_&&_}
 use mathlib.Core.Logic.{_⊎_, inl, inr}
 use mathlib.Core.List.{List, [], _∷_, map, List·Memᴰ, List·Memᴰ·cases-cons}
 use lib.Dec.{T, ltb, eqb, ltb→lt, eqb→eq}
-use lib.ListN.{length}
 use Rattle.theory.specs.Returned.{Returned}
 use Rattle.theory.specs.Row.{rowAt}
 use Rattle.theory.specs.Gather.{upFrom, keep, sum, every, insert, sort, best}
-use Rattle.theory.specs.Rank.{places, above, rivals, levels}
-use Rattle.theory.specs.Response.{ceil, demand, load, climb, inTime, outcome, onTime}
+use Rattle.theory.specs.Rank.{places, rivals, levels}
+use Rattle.theory.specs.Response.{ceil, demand, load, climb, outcome, onTime}
 use Rattle.theory.specs.Points.{lastMultiple, walk, points, slack, floorDiv, times, quotient, bound, pointAllowance, allowance, coreAllowance, IsBound}
 use Rattle.theory.specs.Utilisation.{work}
 use Rattle.theory.proofs.Tests.{and-first, and-second}

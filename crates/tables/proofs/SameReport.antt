@@ -44,7 +44,7 @@ same-count t u (x ∷ xs) (y ∷ ys) kept lent some others-some same =
     ∙ append-assoc (flatMap rowRecord (u .rows)) (flatMap figuresRecord (y ∷ ys) ++ countRecord (u .rows)) lent)
 
 -- the figures of a table within the limits are below 2^32
-certified-fit : (rule : Rule) (t : Table) (all : List Figures) → AllWithin (t .rows) → Certified rule t all → AllFitRecord all
+pub certified-fit : (rule : Rule) (t : Table) (all : List Figures) → AllWithin (t .rows) → Certified rule t all → AllFitRecord all
 certified-fit rule t all within c i inside =
     let in-table : i < length (t .rows) = omega (arith, inside, c .are-figures .one-each) in
     let by-deadline = certified-by-deadline rule t all within c i in-table in
