@@ -33,7 +33,7 @@ module _ (rows : List Row) (steady : AllSteady rows) (i : ℕ) (inside : i < len
       (record { runs = omega (arith, s .runs); some-deadline = s .some-deadline; by-period = s .by-period })
 
   -- a point of row k at which the raised load fits is a point of non-negative slack of the raised set, and the other way round
-  raised-point : (a k p : ℕ) → List·Memᴰ p (points rows k) → load (raised rows i a) k p ≤ p → HasPoint (raised rows i a) k
+  pub raised-point : (a k p : ℕ) → List·Memᴰ p (points rows k) → load (raised rows i a) k p ≤ p → HasPoint (raised rows i a) k
   unfolding slack
   raised-point a k p m h = record {
     point = p;
@@ -41,7 +41,7 @@ module _ (rows : List Row) (steady : AllSteady rows) (i : ℕ) (inside : i < len
     slack-left = slack-left p (load (raised rows i a) k p) .1 h;
   }
 
-  point-for : (a k : ℕ) → T (touches rows i k) → HasPoint (raised rows i a) k → PointFor rows k i a
+  pub point-for : (a k : ℕ) → T (touches rows i k) → HasPoint (raised rows i a) k → PointFor rows k i a
   unfolding slack
   point-for a k t p = record {
     point = p .point;

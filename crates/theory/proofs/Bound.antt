@@ -98,17 +98,18 @@ module _ (rows : List Row) where
             (ceil-positive p (omega (arith, steady i inside .some-deadline, steady i inside .by-period))
             (walk-positive (levels rows k) (length (levels rows k)) (rowAt rows k .D) p (steady k in-set .some-deadline) m))
 
-    -- a number is at most the bound exactly when some point has room for it
-    pub bound-covers : (a : ℕ) (b : ℤ) → IsBound rows k i b → (pos a ≤ℤ b) ↔ PointFor k i a
+    -- a number is at most the quotient at a point exactly when the point has room for it
+    pub quotient-has-room : (a p : ℕ) → List·Memᴰ p (points rows k) → (pos a ≤ℤ quotient rows k i p) ↔ (load rows k p + a * times rows k i p ≤ p)
     unfolding quotient slack
+    quotient-has-room a p m = quotient-covers p (load rows k p) a (times rows k i p) (times-positive p m)
+
+    -- and at most the bound exactly when some point has room for it
+    pub bound-covers : (a : ℕ) (b : ℤ) → IsBound rows k i b → (pos a ≤ℤ b) ↔ PointFor k i a
     bound-covers a b is-bound = (
       λ h. record {
         point = is-bound .point;
         among-points = is-bound .among-points;
-        room = quotient-covers (is-bound .point) (load rows k (is-bound .point)) a (times rows k i (is-bound .point)) (times-positive (is-bound .point) (is-bound .among-points)) .0
-            (subst (λ (z : ℤ). pos a ≤ℤ z) (sym (is-bound .its-quotient)) h);
+        room = quotient-has-room a (is-bound .point) (is-bound .among-points) .0 (subst (λ (z : ℤ). pos a ≤ℤ z) (sym (is-bound .its-quotient)) h);
       },
-      λ p. ≤ℤ-trans (pos a) (quotient rows k i (p .point)) b
-          (quotient-covers (p .point) (load rows k (p .point)) a (times rows k i (p .point)) (times-positive (p .point) (p .among-points)) .1 (p .room))
-          (is-bound .greatest (p .point) (p .among-points)),
+      λ p. ≤ℤ-trans (pos a) (quotient rows k i (p .point)) b (quotient-has-room a (p .point) (p .among-points) .1 (p .room)) (is-bound .greatest (p .point) (p .among-points)),
     )

@@ -2,6 +2,7 @@
 pub mod Tests
 pub mod Each
 pub mod Member
+pub mod First
 pub mod InPlace
 pub mod Sorting
 pub mod Best
@@ -35,3 +36,4 @@ pub mod Shortest
 pub mod Utilisation
 pub mod DemandThree
 pub mod Lists
+pub mod Explanation

@@ -44,7 +44,7 @@ module _ (rows : List Row) (i a : ℕ) (inside : i < length rows) where
           ∙ ap (λ (c : ℕ). record { C = c; D = rowAt rows h .D; T = rowAt rows h .T }) (omega (arith, only-elsewhere i a h d))
 
   -- so rank and rivals stay
-  above-stays : above after ≡ above rows
+  pub above-stays : above after ≡ above rows
   above-stays =
       fun-ext (λ h. fun-ext (λ k.
       ap (λ (d : ℕ). lessOrTied d (rowAt after k .D) h k) (ap (λ (r : Row). r .D) (raised-row h))

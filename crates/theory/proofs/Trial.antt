@@ -1,5 +1,5 @@
 -- The laws on which a search by trial stands: a row that meets with b more in row i meets with less, and row i's own distance to its deadline bounds every raise.
-use mathlib.Core.Path.{_≡_, refl, ap, subst}
+use mathlib.Core.Path.{_≡_, refl, sym, ap, subst}
 use Prim.Native.Nat.{ℕ, _+_, _*_, _≤_, _<_}
 use mathlib.Core.Bool.{Bool, true, false}
 use mathlib.Core.List.{List}
@@ -92,26 +92,35 @@ module _ (rows : List Row) (i : ℕ) (inside : i < length rows) where
         ap (λ (r : Row). r .D) (raised-row rows i b inside i),
       )
 
+  -- a row that the raise does not touch meets with it
+  pub untouched-meets : (a k : ℕ) → AllSteady rows → AllMeet rows → k < length rows → (T (touches rows i k) → ⊥) → Meets (raised rows i a) k
+  untouched-meets a k steady all in-set untouched =
+      let r : Room rows k (rowAt rows k .D) = meets-room rows k (all k in-set) in
+      room-meets (raised rows i a) k (raised-steady rows steady i inside a k (subst (λ (n : ℕ). k < n) (sym (length-set rows i (longer (rowAt rows i) a))) in-set) .runs)
+      (record {
+        time = r .time;
+        room = record { from-one = r .room .from-one; enough = omega (arith, r .room .enough, load-of-untouched rows i a inside k (r .time) untouched) };
+        within = omega (arith, r .within, ap (λ (r : Row). r .D) (raised-row rows i a inside k));
+      })
+
+  -- so all rows meet with it where those do that it touches
+  pub touched-decide : (a : ℕ) → AllSteady rows → AllMeet rows
+      → ((k : ℕ) → k < length rows → T (touches rows i k) → Meets (raised rows i a) k)
+      → (k : ℕ)
+      → k < length rows
+      → Meets (raised rows i a) k
+  touched-decide a steady all touched-meet k in-set = go (touches rows i k) refl
+    where
+      go : (b : Bool) → touches rows i k ≡ b → Meets (raised rows i a) k
+      go true e = touched-meet k in-set (T-true (touches rows i k) e)
+      go false e = untouched-meets a k steady all in-set (T-false (touches rows i k) e)
+
   -- what a search by trial finds is the allowance: each row that the raise touches meets with it, and no larger one leaves all rows meeting
   pub trial-allowance : (a : ℕ) → AllSteady rows → AllMeet rows
       → ((k : ℕ) → k < length rows → T (touches rows i k) → Meets (raised rows i a) k)
       → ((b : ℕ) → AllMeet (raised rows i b) → b ≤ a)
       → IsAllowance rows i a
-  trial-allowance a steady all touched-meet no-larger = record { all-meet = meet; largest = no-larger }
-    where
-      meet : AllMeet (raised rows i a)
-      meet k h = go (touches rows i k) refl
-        where
-          in-set : k < length rows
-          in-set = subst (λ (n : ℕ). k < n) (length-set rows i (longer (rowAt rows i) a)) h
-
-          go : (b : Bool) → touches rows i k ≡ b → Meets (raised rows i a) k
-          go true e = touched-meet k in-set (T-true (touches rows i k) e)
-          go false e =
-              let r : Room rows k (rowAt rows k .D) = meets-room rows k (all k in-set) in
-              room-meets (raised rows i a) k (raised-steady rows steady i inside a k h .runs)
-              (record {
-                time = r .time;
-                room = record { from-one = r .room .from-one; enough = omega (arith, r .room .enough, load-of-untouched rows i a inside k (r .time) (T-false (touches rows i k) e)) };
-                within = omega (arith, r .within, ap (λ (r : Row). r .D) (raised-row rows i a inside k));
-              })
+  trial-allowance a steady all touched-meet no-larger = record {
+    all-meet = λ k h. touched-decide a steady all touched-meet k (subst (λ (n : ℕ). k < n) (length-set rows i (longer (rowAt rows i) a)) h);
+    largest = no-larger;
+  }

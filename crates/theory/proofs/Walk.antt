@@ -75,6 +75,16 @@ module _ (hs : List Row) where
           ⊎-elim (λ q. inr (ltb-true 0 (stop j t) f, q)) (λ q. inl q) (List·Memᴰ·append-cases (walk hs j (stop j t)) q)
       go false false f q = inl q
 
+  -- what holds of the level below from the time, and of that behind what it yields from the multiple, holds of the level
+  pub walk-by-ways : (Q : List ℕ → Type 0) (j t : ℕ) → Q (walk hs j t) → Q (walk hs j (stop j t) ++ walk hs j t) → Q (walk hs (suc j) t)
+  unfolding ways
+  walk-by-ways Q j t alone both = rw (walk-level hs j t) (go (eqb (stop j t) t) (ltb 0 (stop j t)))
+    where
+      go : (a b : Bool) → Q (ways (walk hs j) (stop j t) t a b)
+      go true b = alone
+      go false true = both
+      go false false = alone
+
   -- the start is a point
   pub walk-start : (j t : ℕ) → List·Memᴰ t (walk hs j t)
   unfolding walk

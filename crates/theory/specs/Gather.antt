@@ -1,7 +1,9 @@
 -- Words for numbers and lists of numbers that the definitions of document 01 share: an order with a rule for ties, places, those that pass a
--- test, a sum, what holds of each, a list in an order.
+-- test, a sum, what holds of each, the first of which something holds, a list in an order.
+use mathlib.Core.Path.{_≡_}
 use Prim.Native.Nat.{ℕ, zero, suc, _+_}
 use mathlib.Core.Bool.{Bool, true, false, _&&_, _||_}
+use mathlib.Core.Logic.{_⊎_}
 use mathlib.Core.List.{List, [], _∷_}
 use lib.Dec.{ltb, eqb}
 
@@ -33,6 +35,11 @@ every test (x ∷ xs) = test x && every test xs
 abbrev pub All : (ℕ → Type 0) → List ℕ → Type 0
 All P [] = Unit {0}
 All P (x ∷ xs) = P x × All P xs
+
+-- p is the first of a list of which P holds
+abbrev pub First : (ℕ → Type 0) → List ℕ → ℕ → Type 0
+First P [] p = ⊥
+First P (x ∷ xs) p = ((x ≡ p) × P x) ⊎ ((P x → ⊥) × First P xs p)
 
 -- x put into a list before the first that it precedes
 unfoldable pub insert : (ℕ → ℕ → Bool) → ℕ → List ℕ → List ℕ

@@ -1,4 +1,4 @@
--- Document 01 for one core, as definitions, in the order of the document.
+-- Document 01 for one core, as definitions, in the order of the document; then what document 02 asks for.
 pub mod Returned
 pub mod Gather
 pub mod Row
@@ -10,3 +10,4 @@ pub mod Points
 pub mod Moved
 pub mod Utilisation
 pub mod Lists
+pub mod Explanation

@@ -1,0 +1,246 @@
+-- Document 02, request 1: exactly one row and one point answer the question, and they are the true reason. With the allowance more all rows meet; with one more than that
+-- the named row misses and every row above it still meets; and the named row's bound, and its quotient at the named point, are the allowance itself.
+use mathlib.Core.Path.{_≡_, refl, sym, _∙_, ap, subst}
+use Prim.Native.Nat.{ℕ, suc, _+_, _*_, _≤_, _<_}
+use mathlib.Core.Bool.{Bool, true, false}
+use mathlib.Core.Logic.{_↔_, _⊎_, inl, inr}
+use mathlib.Core.List.{List, List·Memᴰ}
+use native.Mathlib.Omega.{arith}
+use native.Mathlib.Nat.{le-antisymm}
+use borrow.Author.Tests.{leb-true, leb-false}
+use lib.Dec.{T, leb}
+use lib.IntN.{ℤ, pos, negsuc}
+use lib.ListN.{length, length-set}
+use lib.Signed.{_≤ℤ_, ≤ℤ-refl}
+use Rattle.theory.specs.Returned.{Returned, returned}
+use Rattle.theory.specs.Gather.{First}
+use Rattle.theory.specs.Row.{Row, rowAt, AllWithin, FirstBroken}
+use Rattle.theory.specs.Rank.{above, levels}
+use Rattle.theory.specs.Response.{load, Meets, AllMeet, FirstMiss}
+use Rattle.theory.specs.Allowance.{longer, raised, IsAllowance}
+use Rattle.theory.specs.Points.{points, times, quotient, slack, touches, bound, IsBound}
+use Rattle.theory.specs.Lists.{Shaped, rowsOf}
+use Rattle.theory.specs.Explanation.{Limits, Explained, rows-out-of-range, row-breaks-limits, row-not-in-set, row-misses, limited}
+use Rattle.theory.proofs.Each.{T-true, T-false}
+use Rattle.theory.proofs.First.{first-holds, first-unique}
+use Rattle.theory.proofs.Ascending.{least-is-first}
+use Rattle.theory.proofs.Signed.{pos-le, le-pos, ≤ℤ-antisymm}
+use Rattle.theory.proofs.Verdict.{AllSteady, RivalsMeet, point-meets, verdict-by-points}
+use Rattle.theory.proofs.Raise.{above-stays, load-of-touched}
+use Rattle.theory.proofs.Bound.{PointFor, quotient-has-room, bound-is, bound-unique, bound-covers}
+use Rattle.theory.proofs.Allowance.{allowance-unique, raised-steady, raised-point, point-for}
+use Rattle.theory.proofs.Trial.{meets-with-less, untouched-meets, touched-decide, trial-allowance}
+use Rattle.theory.proofs.Lists.{first-miss-unique, first-broken-unique}
+
+-- a whole number that is at least a, and not at least one more, is a
+exactly : (a : ℕ) (z : ℤ) → pos a ≤ℤ z → (pos (suc a) ≤ℤ z → ⊥) → z ≡ pos a
+exactly a (pos n) h no-more = ap pos (go (leb (suc a) n) refl)
+  where
+    go : (b : Bool) → leb (suc a) n ≡ b → n ≡ a
+    go true e = absurd (no-more (pos-le (leb-true (suc a) n e)))
+    go false e = omega (arith, leb-false (suc a) n e, le-pos a n h)
+exactly a (negsuc n) h no-more = absurd (h .le)
+
+-- one row and one point limit a row
+pub limits-unique : (rows : List Row) (i k h p q : ℕ) → Limits rows i k p → Limits rows i h q → (k ≡ h) × (p ≡ q)
+limits-unique rows i k h p q l m = (same-row, same-point)
+  where
+    same-row : k ≡ h
+    same-row =
+        first-miss-unique (raised rows i (suc (m .allowance))) k h
+        (subst (λ (a : ℕ). FirstMiss (raised rows i (suc a)) k) (allowance-unique rows i (l .allowance) (m .allowance) (l .is-allowance) (m .is-allowance)) (l .first-to-miss))
+        (m .first-to-miss)
+
+    same-point : p ≡ q
+    same-point =
+        first-unique (λ x. IsBound rows h i (quotient rows h i x)) (points rows h) p q
+        (subst (λ (r : ℕ). First (λ x. IsBound rows r i (quotient rows r i x)) (points rows r) p) same-row (l .first-greatest)) (m .first-greatest)
+
+module _ (rows : List Row) (steady : AllSteady rows) (i : ℕ) (inside : i < length rows) (all : AllMeet rows) where
+  still-in-set : (a : ℕ) {k : ℕ} → k < length rows → k < length (raised rows i a)
+  still-in-set a {k} h = subst (λ (n : ℕ). k < n) (sym (length-set rows i (longer (rowAt rows i) a))) h
+
+  was-in-set : (a : ℕ) {k : ℕ} → k < length (raised rows i a) → k < length rows
+  was-in-set a {k} h = subst (λ (n : ℕ). k < n) (length-set rows i (longer (rowAt rows i) a)) h
+
+  -- a row with a point that has room for a more meets with it
+  point-for-meets : (a k : ℕ) → k < length rows → T (touches rows i k) → PointFor rows k i a → Meets (raised rows i a) k
+  point-for-meets a k in-set t q =
+      point-meets (raised rows i a) (raised-steady rows steady i inside a) k (still-in-set a in-set)
+      (raised-point rows steady i inside a k (q .point) (q .among-points) (omega (arith, q .room, load-of-touched rows i a inside k (q .point) t)))
+
+  -- and one that meets with it, as its rivals do, has such a point
+  meets-point-for : (a k : ℕ) → k < length rows → T (touches rows i k) → RivalsMeet (raised rows i a) k → Meets (raised rows i a) k → PointFor rows k i a
+  meets-point-for a k in-set t rivals m =
+      point-for rows steady i inside a k t (verdict-by-points (raised rows i a) (raised-steady rows steady i inside a) k (still-in-set a in-set) rivals .0 m)
+
+  -- room for a more and for no more makes a the bound
+  bound-exactly : (a k : ℕ) → k < length rows → PointFor rows k i a → (PointFor rows k i (suc a) → ⊥) → IsBound rows k i (pos a)
+  bound-exactly a k in-set has-room no-more =
+      subst (IsBound rows k i)
+      (exactly a (bound rows k i) (bound-covers rows steady k i in-set inside a (bound rows k i) (bound-is rows k i) .1 has-room) (λ h. no-more (bound-covers rows steady k i in-set inside (suc a) (bound rows k i) (bound-is rows k i) .0 h)))
+      (bound-is rows k i)
+
+  -- the true reason why the allowance a of row i is not larger
+  pub record TrueReason (k p a : ℕ) : Type 0 where
+    pub all-meet-with-it : AllMeet (raised rows i a)
+    pub misses-with-one-more : Meets (raised rows i (suc a)) k → ⊥
+    pub above-meet-with-one-more : (h : ℕ) → h < length rows → T (above rows h k) → Meets (raised rows i (suc a)) h
+    pub touched : T (touches rows i k)
+    pub its-bound : IsBound rows k i (pos a)
+    pub its-quotient : quotient rows k i p ≡ pos a
+
+  -- THE REASON NAMED IS THE TRUE ONE
+  pub limits-truly : (k p : ℕ) (l : Limits rows i k p) → TrueReason k p (l .allowance)
+  limits-truly k p l = record {
+    all-meet-with-it = l .is-allowance .all-meet;
+    misses-with-one-more = l .first-to-miss .misses;
+    above-meet-with-one-more = λ h in-set t.
+        l .first-to-miss .above-meet h (still-in-set (suc a) in-set) (subst (λ (relation : ℕ → ℕ → Bool). T (relation h k)) (sym (above-stays rows i (suc a) inside)) t);
+    touched = touched;
+    its-bound = is-bound;
+    its-quotient = bound-unique rows k i (quotient rows k i p) (pos a) (first-holds (λ q. IsBound rows k i (quotient rows k i q)) (points rows k) p (l .first-greatest)) is-bound;
+  }
+    where
+      a : ℕ
+      a = l .allowance
+
+      in-set : k < length rows
+      in-set = was-in-set (suc a) (l .first-to-miss .in-set)
+
+      touched : T (touches rows i k)
+      touched = go (touches rows i k) refl
+        where
+          go : (b : Bool) → touches rows i k ≡ b → T (touches rows i k)
+          go true e = T-true (touches rows i k) e
+          go false e = absurd (l .first-to-miss .misses (untouched-meets rows i inside (suc a) k steady all in-set (T-false (touches rows i k) e)))
+
+      has-room : PointFor rows k i a
+      has-room = meets-point-for a k in-set touched (λ h there t. l .is-allowance .all-meet h there) (l .is-allowance .all-meet k (still-in-set a in-set))
+
+      no-more : PointFor rows k i (suc a) → ⊥
+      no-more q = l .first-to-miss .misses (point-for-meets (suc a) k in-set touched q)
+
+      is-bound : IsBound rows k i (pos a)
+      is-bound = bound-exactly a k in-set has-room no-more
+
+  -- a search by points finds the limiting row: each row that the raise touches has a point with room for a more, those above row k even for one more, row k itself
+  -- for no more; and the point: the least of row k's with room for a more
+  pub record FoundByPoints (k p a : ℕ) : Type 0 where
+    pub in-set : k < length rows
+    pub touched : T (touches rows i k)
+    pub each-has-room : (h : ℕ) → h < length rows → T (touches rows i h) → PointFor rows h i a
+    pub above-have-more : (h : ℕ) → h < length rows → T (touches rows i h) → T (above rows h k) → PointFor rows h i (suc a)
+    pub no-more : PointFor rows k i (suc a) → ⊥
+    pub among-points : List·Memᴰ p (points rows k)
+    pub has-room : load rows k p + a * times rows k i p ≤ p
+    pub least : (q : ℕ) → List·Memᴰ q (points rows k) → load rows k q + a * times rows k i q ≤ q → p ≤ q
+
+  pub found-limits : (k p a : ℕ) → FoundByPoints k p a → Limits rows i k p
+  unfolding points
+  found-limits k p a found = record {
+    allowance = a;
+    is-allowance = trial-allowance rows i inside a steady all (λ h there t. point-for-meets a h there t (found .each-has-room h there t)) no-larger;
+    first-to-miss = first;
+    first-greatest = first-point;
+  }
+    where
+      -- row k misses with one more, and the rows above it meet
+      above-meet : (h : ℕ) → h < length (raised rows i (suc a)) → T (above (raised rows i (suc a)) h k) → Meets (raised rows i (suc a)) h
+      above-meet h there t = go (touches rows i h) refl
+        where
+          ranks : T (above rows h k)
+          ranks = subst (λ (relation : ℕ → ℕ → Bool). T (relation h k)) (above-stays rows i (suc a) inside) t
+
+          go : (b : Bool) → touches rows i h ≡ b → Meets (raised rows i (suc a)) h
+          go true e =
+              let touched : T (touches rows i h) = T-true (touches rows i h) e in
+              point-for-meets (suc a) h (was-in-set (suc a) there) touched (found .above-have-more h (was-in-set (suc a) there) touched ranks)
+          go false e = untouched-meets rows i inside (suc a) h steady all (was-in-set (suc a) there) (T-false (touches rows i h) e)
+
+      misses : Meets (raised rows i (suc a)) k → ⊥
+      misses m = found .no-more (meets-point-for (suc a) k (found .in-set) (found .touched) above-meet m)
+
+      first : FirstMiss (raised rows i (suc a)) k
+      first = record { in-set = still-in-set (suc a) (found .in-set); misses = misses; above-meet = above-meet }
+
+      no-larger : (b : ℕ) → AllMeet (raised rows i b) → b ≤ a
+      no-larger b meet = go (leb b a) refl
+        where
+          go : (c : Bool) → leb b a ≡ c → b ≤ a
+          go true e = leb-true b a e
+          go false e =
+              absurd (misses (meets-with-less rows i inside (suc a) b k (raised-steady rows steady i inside (suc a) k (still-in-set (suc a) (found .in-set)) .runs) (leb-false b a e) (meet k (still-in-set b (found .in-set)))))
+
+      is-bound : IsBound rows k i (pos a)
+      is-bound = bound-exactly a k (found .in-set) (record { point = p; among-points = found .among-points; room = found .has-room }) (found .no-more)
+
+      first-point : First (λ q. IsBound rows k i (quotient rows k i q)) (points rows k) p
+      first-point =
+          least-is-first (levels rows k) (λ q. IsBound rows k i (quotient rows k i q)) (length (levels rows k)) (rowAt rows k .D) p (found .among-points)
+          (subst (IsBound rows k i) (≤ℤ-antisymm (pos a) (quotient rows k i p) (covers p (found .among-points) .1 (found .has-room)) (is-bound .greatest p (found .among-points))) is-bound)
+          (λ q m b. found .least q m (covers q m .0 (subst (λ (z : ℤ). pos a ≤ℤ z) (bound-unique rows k i (pos a) (quotient rows k i q) is-bound b) (≤ℤ-refl (pos a)))))
+        where
+          covers : (q : ℕ) → List·Memᴰ q (points rows k) → (pos a ≤ℤ quotient rows k i q) ↔ (load rows k q + a * times rows k i q ≤ q)
+          covers = quotient-has-room rows steady k i (found .in-set) inside a
+
+-- two explanations that are the same: what is returned, the limiting row and the point
+pub record SameExplanation (answer other : Returned) (row other-row point other-point : ℕ) : Type 0 where
+  pub same-answer : answer ≡ other
+  pub same-row : row ≡ other-row
+  pub same-point : point ≡ other-point
+
+module _ (cs ds ts : List ℕ) (row : ℕ) where
+  abbrev Result : Returned → ℕ → ℕ → Type 0
+  Result = Explained cs ds ts row
+
+  abbrev set : List Row
+  set = rowsOf cs ds ts
+
+  refused-alike : {a b : Returned} → a ≡ b → SameExplanation a b 0 0 0 0
+  refused-alike e = record { same-answer = e; same-row = refl; same-point = refl }
+
+  clash : {X : Type 0} (k : ℕ) → FirstBroken set k → AllWithin set → X
+  clash k broken within = absurd (broken .breaks (within k (broken .in-table)))
+
+  late : {X : Type 0} (k : ℕ) → FirstMiss set k → AllMeet set → X
+  late k miss all = absurd (miss .misses (all k (miss .in-set)))
+
+  -- a row is in the set or it is not
+  outside : {X : Type 0} (i : ℕ) → (row ≡ 0) ⊎ (length cs < row) → row ≡ suc i → i < length cs → X
+  outside i (inl none) e h = absurd (omega arith)
+  outside i (inr above) e h = absurd (omega arith)
+
+  both-limited : (i i′ k k′ p p′ : ℕ) → row ≡ suc i → row ≡ suc i′ → Limits set i k p → Limits set i′ k′ p′ → SameExplanation (returned 0 0) (returned 0 0) (suc k) (suc k′) p p′
+  both-limited i i′ k k′ p p′ e e′ l l′ =
+      let same-place : i ≡ i′ = omega arith in
+      let same = limits-unique set i′ k k′ p p′ (subst (λ (x : ℕ). Limits set x k p) same-place l) l′ in
+      record { same-answer = refl; same-row = ap suc (same .0); same-point = same .1 }
+
+  -- THE PROMISE DETERMINES THE EXPLANATION
+  pub explained-unique : {a b : Returned} {k h p q : ℕ} → Result a k p → Result b h q → SameExplanation a b k h p q
+  explained-unique (rows-out-of-range n) (rows-out-of-range n′) = refused-alike refl
+  explained-unique (rows-out-of-range n) (row-breaks-limits k′ s′ f′) = absurd (n s′)
+  explained-unique (rows-out-of-range n) (row-not-in-set s′ w′ o′) = absurd (n s′)
+  explained-unique (rows-out-of-range n) (row-misses i′ k′ s′ w′ e′ h′ m′) = absurd (n s′)
+  explained-unique (rows-out-of-range n) (limited i′ k′ p′ s′ w′ e′ h′ all′ l′) = absurd (n s′)
+  explained-unique (row-breaks-limits k s f) (rows-out-of-range n′) = absurd (n′ s)
+  explained-unique (row-breaks-limits k s f) (row-breaks-limits k′ s′ f′) = refused-alike (ap (λ (x : ℕ). returned 4 (suc x)) (first-broken-unique set k k′ f f′))
+  explained-unique (row-breaks-limits k s f) (row-not-in-set s′ w′ o′) = clash k f w′
+  explained-unique (row-breaks-limits k s f) (row-misses i′ k′ s′ w′ e′ h′ m′) = clash k f w′
+  explained-unique (row-breaks-limits k s f) (limited i′ k′ p′ s′ w′ e′ h′ all′ l′) = clash k f w′
+  explained-unique (row-not-in-set s w o) (rows-out-of-range n′) = absurd (n′ s)
+  explained-unique (row-not-in-set s w o) (row-breaks-limits k′ s′ f′) = clash k′ f′ w
+  explained-unique (row-not-in-set s w o) (row-not-in-set s′ w′ o′) = refused-alike refl
+  explained-unique (row-not-in-set s w o) (row-misses i′ k′ s′ w′ e′ h′ m′) = outside i′ o e′ h′
+  explained-unique (row-not-in-set s w o) (limited i′ k′ p′ s′ w′ e′ h′ all′ l′) = outside i′ o e′ h′
+  explained-unique (row-misses i k s w e h m) (rows-out-of-range n′) = absurd (n′ s)
+  explained-unique (row-misses i k s w e h m) (row-breaks-limits k′ s′ f′) = clash k′ f′ w
+  explained-unique (row-misses i k s w e h m) (row-not-in-set s′ w′ o′) = outside i o′ e h
+  explained-unique (row-misses i k s w e h m) (row-misses i′ k′ s′ w′ e′ h′ m′) = refused-alike (ap (λ (x : ℕ). returned 8 (suc x)) (first-miss-unique set k k′ m m′))
+  explained-unique (row-misses i k s w e h m) (limited i′ k′ p′ s′ w′ e′ h′ all′ l′) = late k m all′
+  explained-unique (limited i k p s w e h all l) (rows-out-of-range n′) = absurd (n′ s)
+  explained-unique (limited i k p s w e h all l) (row-breaks-limits k′ s′ f′) = clash k′ f′ w
+  explained-unique (limited i k p s w e h all l) (row-not-in-set s′ w′ o′) = outside i o′ e h
+  explained-unique (limited i k p s w e h all l) (row-misses i′ k′ s′ w′ e′ h′ m′) = late k′ m′ all
+  explained-unique (limited i k p s w e h all l) (limited i′ k′ p′ s′ w′ e′ h′ all′ l′) = both-limited i i′ k k′ p p′ e e′ l l′
