@@ -1,4 +1,4 @@
-// The answers of the services: document 01, "Refusal numbers". `specs/` says what number and row each returns.
+// The answers of the services: document 01, "Refusal numbers", and what document 02 adds. `specs/` says what number and row each returns.
 ghost use mathlib.Core.Path.{_≡_};
 ghost use Rattle.answers.specs.Answer.{numberOf, rowOf};
 
@@ -12,6 +12,7 @@ pub enum Answer {
     NoCoreTakes(u32),
     OutputTooShort,
     RowMisses(u32),
+    RowNotInSet,
 }
 
 // The number of an answer: 0 for an accepted call, else the refusal's.
@@ -28,6 +29,7 @@ pub fn number_of(answer: Answer) -> u32
         Answer::NoCoreTakes(_) => 6,
         Answer::OutputTooShort => 7,
         Answer::RowMisses(_) => 8,
+        Answer::RowNotInSet => 10,
     }
 }
 
@@ -45,5 +47,6 @@ pub fn row_of(answer: Answer) -> u32
         Answer::RowsOutOfRange => 0,
         Answer::CountDiffers => 0,
         Answer::OutputTooShort => 0,
+        Answer::RowNotInSet => 0,
     }
 }

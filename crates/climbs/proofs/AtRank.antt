@@ -1,8 +1,7 @@
 -- C and T of a set's rows gathered by rank: what stands before a row are its rivals' numbers, so its load is the load over them.
-use mathlib.Core.Path.{_≡_, refl, sym, _∙_, ap, subst}
+use mathlib.Core.Path.{_≡_, refl, sym, _∙_, ap}
 use Prim.Native.Nat.{ℕ, zero, suc, _≤_, _<_}
 use mathlib.Core.Bool.{Bool, true, false}
-use mathlib.Core.Logic.{⊎-elim}
 use mathlib.Core.List.{List, [], _∷_, map}
 use native.Mathlib.Omega.{arith}
 use lib.Dec.{T}
@@ -12,13 +11,12 @@ use Rattle.theory.specs.Row.{AllWithin}
 use Rattle.theory.specs.Gather.{keep}
 use Rattle.theory.specs.Response.{load}
 use Rattle.theory.specs.Lists.{Shaped, rowsOf}
-use Rattle.theory.proofs.Tests.{order-cases}
 use Rattle.theory.proofs.Each.{true-of}
 use Rattle.theory.proofs.Kept.{keep-passes-first, keep-fails-first}
 use Rattle.demands.specs.Levels.{loadOf, Small}
 use Rattle.climbs.specs.Ranking.{aboveBy, rankingBy, rivalsIn}
-use Rattle.climbs.proofs.ByRank.{above-by-transitive, above-by-irreflexive, length-ranking}
-use Rattle.climbs.proofs.InLists.{ranked, ranked-above}
+use Rattle.climbs.proofs.ByRank.{length-ranking}
+use Rattle.climbs.proofs.InLists.{ranked, ranked-above, ranked-before}
 use Rattle.climbs.proofs.Load.{rivalEntries, entry-at, load-of-rivals, small-rivals}
 
 -- a test that is not passed is false
@@ -71,12 +69,7 @@ module _ (cs ds ts : List ℕ) (shaped : Shaped cs ds ts) (j : ℕ) (inside : j 
   rivals-at-rank = keep-first (λ h. aboveBy ds h k) (rankingBy ds) j (λ p h l. true-of _ (ranked-above cs ds ts shaped p j h inside)) (λ p h l. not-above p h (in-ranking l))
     where
       not-above : (p : ℕ) → j ≤ p → p < length cs → aboveBy ds (ranked cs ds ts shaped p) k ≡ false
-      not-above p h l =
-          false-of _ (λ above.
-          ⊎-elim
-          (λ (b : j < p). above-by-irreflexive ds k (above-by-transitive ds k (ranked cs ds ts shaped p) k (ranked-above cs ds ts shaped j p b l) above))
-          (λ rest. ⊎-elim (λ (e : j ≡ p). above-by-irreflexive ds k (subst (λ (q : ℕ). T (aboveBy ds (ranked cs ds ts shaped q) k)) (sym e) above)) (λ (b : p < j). absurd (omega arith)) rest)
-          (order-cases j p))
+      not-above p h l = false-of _ (λ above. omega (arith, ranked-before cs ds ts shaped p j l above))
 
   -- so what stands before it in rank order are its rivals' entries
   pub before-are-rivals : (xs array : List ℕ) → InRankOrder ds xs array → take j array ≡ rivalEntries xs ds k

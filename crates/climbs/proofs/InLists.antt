@@ -1,17 +1,21 @@
 -- A set of rows in three lists: the numbers of a row, and the row at a place by rank.
 use mathlib.Core.Path.{_≡_, sym, ap, _∙_, subst}
 use Prim.Native.Nat.{ℕ, _<_}
+use mathlib.Core.Bool.{Bool}
+use mathlib.Core.Logic.{⊎-elim}
 use mathlib.Core.List.{List}
 use native.Mathlib.Omega.{arith}
 use lib.Dec.{T}
 use lib.ListN.{length, getD, take}
 use lib.Seq.{getD-take, length-take-le}
 use Rattle.theory.specs.Row.{Row, rowAt}
+use Rattle.theory.specs.Rank.{above}
 use Rattle.theory.specs.Lists.{rowsOf, Shaped, ForEach}
 use Rattle.theory.proofs.RowsOf.{rows-of-length, row-of-lists}
+use Rattle.theory.proofs.Tests.{order-cases}
 use Rattle.theory.proofs.At.{StandsIn, stands-in, each-at, ordered-at}
 use Rattle.climbs.specs.Ranking.{aboveBy, rankingBy}
-use Rattle.climbs.proofs.ByRank.{ranking-inside, mem-ranking, length-ranking, ranking-ordered}
+use Rattle.climbs.proofs.ByRank.{above-of-lists, above-by-transitive, above-by-irreflexive, ranking-inside, mem-ranking, length-ranking, ranking-ordered}
 
 module _ (cs ds ts : List ℕ) (shaped : Shaped cs ds ts) where
   -- the numbers of a row are the lists'
@@ -49,6 +53,27 @@ module _ (cs ds ts : List ℕ) (shaped : Shaped cs ds ts) where
   -- an earlier one ranks above a later one
   pub ranked-above : (p q : ℕ) → p < q → q < length cs → T (aboveBy ds (ranked p) (ranked q))
   ranked-above p q h l = ordered-at (λ x y. T (aboveBy ds x y)) (rankingBy ds) (ranking-ordered ds) p q h (omega (arith, length-ranking ds, shaped .as-many-deadlines))
+
+  -- and one that ranks above another is an earlier one
+  pub ranked-before : (p q : ℕ) → p < length cs → T (aboveBy ds (ranked p) (ranked q)) → p < q
+  ranked-before p q h above =
+      ⊎-elim (λ b. b)
+      (⊎-elim
+      (λ e. absurd (above-by-irreflexive ds (ranked q) (subst (λ (x : ℕ). T (aboveBy ds (ranked x) (ranked q))) e above)))
+      (λ b. absurd (above-by-irreflexive ds (ranked q) (above-by-transitive ds (ranked q) (ranked p) (ranked q) (ranked-above q p b h) above))))
+      (order-cases p q)
+
+  -- the same of the rows
+  pub above-before : (p q : ℕ) → p < length cs → T (above (rowsOf cs ds ts) (ranked p) (ranked q)) → p < q
+  above-before p q h t =
+      ranked-before p q h (subst (λ (relation : ℕ → ℕ → Bool). T (relation (ranked p) (ranked q))) (above-of-lists cs ds ts (shaped .as-many-deadlines) (shaped .as-many-periods)) t)
+
+  -- no row stands at two places
+  pub ranked-once : (p q : ℕ) → p < length cs → q < length cs → ranked p ≡ ranked q → p ≡ q
+  ranked-once p q h l same =
+      ⊎-elim (λ b. absurd (above-by-irreflexive ds (ranked q) (subst (λ (x : ℕ). T (aboveBy ds x (ranked q))) same (ranked-above p q b l))))
+      (⊎-elim (λ e. e) (λ b. absurd (above-by-irreflexive ds (ranked q) (subst (λ (x : ℕ). T (aboveBy ds (ranked q) x)) same (ranked-above q p b h)))))
+      (order-cases p q)
 
   -- every row stands at a place by rank
   pub record Ranked (k : ℕ) : Type 0 where

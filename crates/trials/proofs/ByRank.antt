@@ -1,7 +1,6 @@
 -- C, D, T and the response times of a set by rank: they respond in time where the set's rows do, and an allowance among them is the row's allowance in the set.
 use mathlib.Core.Path.{_≡_, sym, ap, _∙_, subst}
 use Prim.Native.Nat.{ℕ, _≤_, _<_}
-use mathlib.Core.Bool.{Bool}
 use mathlib.Core.Logic.{_⊎_, inl, inr}
 use mathlib.Core.List.{List}
 use native.Mathlib.Omega.{arith}
@@ -16,15 +15,15 @@ use Rattle.theory.specs.Climb.{LeastRoom}
 use Rattle.theory.specs.Allowance.{longer, raised, IsAllowance}
 use Rattle.theory.specs.Points.{touches}
 use Rattle.theory.specs.Lists.{rowsOf, Shaped}
-use Rattle.theory.proofs.Tests.{equal-or-not, order-cases, or-cases}
+use Rattle.theory.proofs.Tests.{equal-or-not, or-cases}
 use Rattle.theory.proofs.Each.{true-of}
 use Rattle.theory.proofs.Verdict.{within-steady}
 use Rattle.theory.proofs.Trial.{response-below-room, trial-allowance}
-use Rattle.demands.specs.Levels.{loadOf}
-use Rattle.climbs.specs.Ranking.{aboveBy, rankingBy}
-use Rattle.climbs.proofs.ByRank.{above-of-lists, above-by-transitive, above-by-irreflexive, length-ranking}
+use Rattle.demands.specs.Levels.{loadOf, Small}
+use Rattle.climbs.specs.Ranking.{rankingBy}
+use Rattle.climbs.proofs.ByRank.{length-ranking}
 use Rattle.climbs.proofs.Load.{entriesAt, limits-at}
-use Rattle.climbs.proofs.InLists.{in-rows, in-lists, deadline-of, execution-of, ranked, ranked-in-lists, ranked-above, Ranked, rank-of}
+use Rattle.climbs.proofs.InLists.{in-rows, in-lists, deadline-of, execution-of, ranked, ranked-in-lists, above-before, ranked-once, Ranked, rank-of}
 use Rattle.climbs.proofs.AtRank.{InRankOrder, gathered-in-rank-order, entry-at-rank, load-at-rank}
 use Rattle.raises.proofs.RaisedRow.{Counted, counts-before, counts-itself, raised-meets-has-room, raised-with-room-meets}
 use Rattle.responses.specs.Verdict.{RespondsInTime}
@@ -38,7 +37,7 @@ byRank ds xs = entriesAt xs (rankingBy ds)
 pub length-by-rank : (ds xs : List ℕ) → length (byRank ds xs) ≡ length ds
 length-by-rank ds xs = length-map (rankingBy ds) (λ h. getD xs h 0) ∙ length-ranking ds
 
-in-order : (ds xs : List ℕ) → InRankOrder ds xs (byRank ds xs)
+pub in-order : (ds xs : List ℕ) → InRankOrder ds xs (byRank ds xs)
 in-order ds xs = take-all (length ds) (byRank ds xs) (omega (arith, length-by-rank ds xs))
 
 -- an array into which they are gathered has them at its front
@@ -70,27 +69,31 @@ module _ (cs ds ts : List ℕ) (shaped : Shaped cs ds ts) (within : AllWithin (r
   at = ranked cs ds ts shaped
 
   -- the entry at a place by rank is the row's
-  entry : (xs : List ℕ) (j : ℕ) → j < length cs → getD (byRank ds xs) j 0 ≡ getD xs (at j) 0
+  pub entry : (xs : List ℕ) (j : ℕ) → j < length cs → getD (byRank ds xs) j 0 ≡ getD xs (at j) 0
   entry xs j inside = entry-at-rank cs ds ts shaped j inside xs (byRank ds xs) (in-order ds xs)
 
   -- the row at a place by rank keeps the limits
-  limits : (j : ℕ) → j < length cs → WithinLimits (record { C = getD cs (at j) 0; D = getD ds (at j) 0; T = getD ts (at j) 0 })
+  pub limits : (j : ℕ) → j < length cs → WithinLimits (record { C = getD cs (at j) 0; D = getD ds (at j) 0; T = getD ts (at j) 0 })
   limits j inside = limits-at cs ds ts shaped within (at j) (ranked-in-lists cs ds ts shaped j inside)
 
   -- there are as many by rank as rows
-  in-set : {j : ℕ} → j < length (byRank ds cs) → j < length cs
+  pub in-set : {j : ℕ} → j < length (byRank ds cs) → j < length cs
   in-set h = omega (arith, length-by-rank ds cs, shaped .as-many-deadlines)
+
+  -- no sum over them is large
+  pub small-by-rank : Small (byRank ds cs) (byRank ds ts)
+  small-by-rank = record {
+    as-many = length-by-rank ds ts ∙ sym (length-by-rank ds cs);
+    few = omega (arith, length-by-rank ds cs, shaped .as-many-deadlines, shaped .no-25th);
+    period-positive = λ j h. omega (arith, limits j (in-set h), entry ts j (in-set h));
+    by-period = λ j h. omega (arith, limits j (in-set h), entry ts j (in-set h), entry cs j (in-set h));
+    by-million = λ j h. omega (arith, limits j (in-set h), entry ts j (in-set h));
+  }
 
   module _ (responses : List ℕ) (in-time : (k : ℕ) → k < length cs → RespondsInTime (rowsOf cs ds ts) responses k) where
     in-time-in-order : InTimeByRank (byRank ds cs) (byRank ds ds) (byRank ds ts) (byRank ds responses)
     in-time-in-order = record {
-      small = record {
-        as-many = length-by-rank ds ts ∙ sym (length-by-rank ds cs);
-        few = omega (arith, length-by-rank ds cs, shaped .as-many-deadlines, shaped .no-25th);
-        period-positive = λ j h. omega (arith, limits j (in-set h), entry ts j (in-set h));
-        by-period = λ j h. omega (arith, limits j (in-set h), entry ts j (in-set h), entry cs j (in-set h));
-        by-million = λ j h. omega (arith, limits j (in-set h), entry ts j (in-set h));
-      };
+      small = small-by-rank;
       as-many-deadlines = length-by-rank ds ds ∙ sym (length-by-rank ds cs);
       as-many-responses = length-by-rank ds responses ∙ sym (length-by-rank ds cs);
       by-period = λ j h. omega (arith, limits j (in-set h), entry ts j (in-set h), entry ds j (in-set h));
@@ -112,7 +115,7 @@ module _ (cs ds ts : List ℕ) (shaped : Shaped cs ds ts) (within : AllWithin (r
 
   module _ (p : ℕ) (inside : p < length cs) where
     -- a row from place p on counts the row at place p
-    counted : (j : ℕ) → p ≤ j → j < length cs → Counted rows (at j) (at p) (getD (byRank ds cs) j 0) (take j (byRank ds cs)) (take j (byRank ds ts)) (countedBy (byRank ds ts) p j)
+    pub counted : (j : ℕ) → p ≤ j → j < length cs → Counted rows (at j) (at p) (getD (byRank ds cs) j 0) (take j (byRank ds cs)) (take j (byRank ds ts)) (countedBy (byRank ds ts) p j)
     counted j from h = go (equal-or-not j p)
       where
         go : (j ≡ p) ⊎ (j ≡ p → ⊥) → Counted rows (at j) (at p) (getD (byRank ds cs) j 0) (take j (byRank ds cs)) (take j (byRank ds ts)) (countedBy (byRank ds ts) p j)
@@ -120,7 +123,7 @@ module _ (cs ds ts : List ℕ) (shaped : Shaped cs ds ts) (within : AllWithin (r
         go (inr d) = rw (counts-by-period (byRank ds ts) p j d) (counts-before cs ds ts shaped (byRank ds cs) (byRank ds ts) (in-order ds cs) (in-order ds ts) j h p (omega arith))
 
     -- its deadline is the row's
-    deadline : (j : ℕ) → j < length cs → rowAt rows (at j) .D ≡ getD (byRank ds ds) j 0
+    pub deadline : (j : ℕ) → j < length cs → rowAt rows (at j) .D ≡ getD (byRank ds ds) j 0
     deadline j h = deadline-of cs ds ts shaped (at j) ∙ sym (entry ds j h)
 
     -- it has room with a raise exactly where it meets in the raised set
@@ -131,25 +134,14 @@ module _ (cs ds ts : List ℕ) (shaped : Shaped cs ds ts) (within : AllWithin (r
     meets-of-room a j from h r = raised-with-room-meets within (counted j from h) a (rw (deadline j h) r)
 
     -- a row before place p is not touched
-    touched-from : (q : ℕ) → T (touches rows (at p) (at q)) → p ≤ q
-    touched-from q touched = go (order-cases q p)
+    pub touched-from : (q : ℕ) → q < length cs → T (touches rows (at p) (at q)) → p ≤ q
+    touched-from q h touched = go (or-cases (eqb (at q) (at p)) (rival rows (at p) (at q)) touched)
       where
-        go : (q < p) ⊎ (q ≡ p) ⊎ (p < q) → p ≤ q
-        go (inl h) = absurd (before (or-cases (eqb (at q) (at p)) (rival rows (at p) (at q)) touched))
-          where
-            above : T (aboveBy ds (at q) (at p))
-            above = ranked-above cs ds ts shaped q p h inside
+        go : T (eqb (at q) (at p)) ⊎ T (rival rows (at p) (at q)) → p ≤ q
+        go (inl same) = omega (arith, ranked-once cs ds ts shaped q p h inside (eqb-true (at q) (at p) (true-of _ same)))
+        go (inr above) = let before : p < q = above-before cs ds ts shaped p q inside above in omega arith
 
-            before : T (eqb (at q) (at p)) ⊎ T (rival rows (at p) (at q)) → ⊥
-            before (inl same) = above-by-irreflexive ds (at p) (subst (λ (k : ℕ). T (aboveBy ds k (at p))) (eqb-true (at q) (at p) (true-of _ same)) above)
-            before (inr below) =
-                above-by-irreflexive ds (at q)
-                (above-by-transitive ds (at q) (at p) (at q) above
-                (subst (λ (relation : ℕ → ℕ → Bool). T (relation (at p) (at q))) (above-of-lists cs ds ts (shaped .as-many-deadlines) (shaped .as-many-periods)) below))
-        go (inr (inl e)) = omega arith
-        go (inr (inr h)) = omega arith
-
-    in-rows-at : (j : ℕ) → j < length cs → at j < length rows
+    pub in-rows-at : (j : ℕ) → j < length cs → at j < length rows
     in-rows-at j h = in-rows cs ds ts shaped (ranked-in-lists cs ds ts shaped j h)
 
     -- an allowance by rank is the row's allowance
@@ -177,6 +169,6 @@ module _ (cs ds ts : List ℕ) (shaped : Shaped cs ds ts) (within : AllWithin (r
         touched-meets : (k : ℕ) → Ranked cs ds ts shaped k → T (touches rows (at p) k) → Meets (raised rows (at p) a) k
         touched-meets k stands touched =
             let q = stands .place in
-            let from : p ≤ q = touched-from q (subst (λ (x : ℕ). T (touches rows (at p) x)) (sym (stands .there)) touched) in
+            let from : p ≤ q = touched-from q (stands .inside) (subst (λ (x : ℕ). T (touches rows (at p) x)) (sym (stands .there)) touched) in
             subst (Meets (raised rows (at p) a)) (stands .there)
             (meets-of-room a q from (stands .inside) (at-rank .all-have-room q from (omega (arith, stands .inside, length-by-rank ds cs, shaped .as-many-deadlines))))

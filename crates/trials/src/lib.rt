@@ -18,7 +18,7 @@ pub struct Tried {
 }
 
 // The period of the jobs for which the row at place j by rank counts the one at place p: itself it counts once, and no deadline passes a million.
-fn counted_by(t: &[u32], p: usize, j: usize) -> u32
+pub fn counted_by(t: &[u32], p: usize, j: usize) -> u32
     requires { ⌜ p < length (now t) ⌝ }
     ensures { λ r. ⌜ r ≡ countedBy (now (t .entry)) p j ⌝ }
 {

@@ -96,7 +96,7 @@ fn visit(p: u32, own: u32, c: &[u32], t: &[u32], best: &mut [i64])
 }
 
 // The largest multiple of m not above a time.
-fn last_multiple(m: u32, time: u32) -> u32
+pub fn last_multiple(m: u32, time: u32) -> u32
     requires { ⌜ 1 ≤ m ⌝ }
     ensures { λ r. ⌜ r ≡ lastMultiple m time ⌝ }
 {

@@ -34,23 +34,18 @@ slice-aggregate-by-rank c =
     let lists = start .args in
     omega (arith, length-take (length (lists .c .now)) (lists .order .now), ranked-long (lists .c .now) (lists .d .now) (lists .order .now) (start .pre .0 .0 .as-many-deadlines) (start .pre .1))
 
--- the places of the order, one for each row, are rows'
-places : (c : tie.After-by-rank Inv-loop μ-loop)
-    → let lists = c .before .before .before .before .before .args in
-    let first = take (length (lists .c .now)) (lists .order .now) in
-    (length first ≤ 24) × All (λ h. h < length (lists .c .now)) first
-places c =
-    let start = c .before .before .before .before .before in
-    places-of-rows (start .args .c .now) (start .args .d .now) (start .args .order .now) (start .pre .0 .0 .as-many-deadlines) (start .pre .1) (start .pre .0 .0 .no-25th)
+-- the places of the order, one for each row, are places of each list
+places : (start : tie.Start Inv-loop μ-loop) {n : ℕ} → length (start .args .c .now) ≤ n
+    → let first = take (length (start .args .c .now)) (start .args .order .now) in (length first ≤ 24) × All (λ h. h < n) first
+places start = places-of-rows (start .args .c .now) (start .args .d .now) (start .args .order .now) (start .pre .0 .0 .as-many-deadlines) (start .pre .1) (start .pre .0 .0 .no-25th)
 
 gather-requires : tie.Need-gather-requires Inv-loop μ-loop
-gather-requires c κs = places c
+gather-requires c κs = places (c .before .before .before .before .before) (omega arith)
 
 gather-requires-2 : tie.Need-gather-requires-2 Inv-loop μ-loop
 gather-requires-2 c κs =
     let start = c .before .before .before .before .before .before in
-    let shaped = start .pre .0 .0 in
-    (places (c .before) .0, all-map (take (length (start .args .c .now)) (start .args .order .now)) (λ h in-c. omega (arith, shaped .as-many-deadlines, shaped .as-many-periods)) (places (c .before) .1))
+    places start (omega (arith, start .pre .0 .0 .as-many-periods))
 
 -- C and T of the rows stand by rank
 stand : (c : tie.After-gather2 Inv-loop μ-loop) → let lists = c .before .before .before .before .before .before .before .args in StandByRank (lists .c .now) (lists .d .now) (lists .t .now) (c .before .gather .result) (c .gather2 .result)

@@ -8,7 +8,7 @@ use borrow.Author.Needs.{needs}
 use lib.ListN.{length, getD, take}
 use lib.Seq.{length-take-le}
 use Rattle.theory.specs.Gather.{All}
-use Rattle.theory.proofs.Each.{T-false, all-map}
+use Rattle.theory.proofs.Each.{T-false}
 use Rattle.climbs.proofs.OrderByRank.{ranked-long, places-of-rows}
 use Rattle.climbs.proofs.InLists.{ranked, order-ranked, order-in-lists}
 use Rattle.trials.proofs.ByRank.{ListedByRank, length-by-rank, gathered-by-rank, in-time-by-rank, allowance-of-rank}
@@ -25,9 +25,8 @@ abbrev μ-loop : tie.MeasureT-loop
 -- the places by rank are places of each list
 places-of-all : (start : tie.Start Inv-loop μ-loop) {m : ℕ} → length (start .args .c .now) ≤ m
     → let places = take (length (start .args .c .now)) (start .args .order .now) in (length places ≤ 24) × All (λ h. h < m) places
-places-of-all start fits =
-    let places = places-of-rows (start .args .c .now) (start .args .d .now) (start .args .order .now) (start .pre .0 .0 .as-many-deadlines) (start .pre .1 .0) (start .pre .0 .0 .no-25th) in
-    (places .0, all-map (take (length (start .args .c .now)) (start .args .order .now)) (λ h inside. omega arith) (places .1))
+places-of-all start =
+    places-of-rows (start .args .c .now) (start .args .d .now) (start .args .order .now) (start .pre .0 .0 .as-many-deadlines) (start .pre .1 .0) (start .pre .0 .0 .no-25th)
 
 slice-aggregate-by-rank : tie.Need-slice-aggregate-by-rank Inv-loop μ-loop
 slice-aggregate-by-rank c =

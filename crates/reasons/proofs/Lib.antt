@@ -1,0 +1,6 @@
+-- Laws of the search for the limiting row.
+pub mod Next
+pub mod Beyond
+pub mod Reaching
+pub mod Limiting
+pub mod ByRank

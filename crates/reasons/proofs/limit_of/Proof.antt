@@ -1,0 +1,143 @@
+-- `limit_of` gathers the rows by rank and asks for the limiting row there.
+use mathlib.Core.Path.{_≡_, sym, ap, _∙_, subst}
+use Prim.Native.Nat.{ℕ, _≤_, _<_}
+use mathlib.Core.List.{List}
+use native.Mathlib.Omega.{arith}
+use borrow.Author.Needs.{needs}
+use lib.ListN.{length, getD, take}
+use lib.Seq.{length-take-le, getD-take}
+use Rattle.theory.specs.Gather.{All}
+use Rattle.theory.specs.Lists.{rowsOf}
+use Rattle.theory.specs.Explanation.{Limits}
+use Rattle.climbs.proofs.OrderByRank.{ranked-long, places-of-rows, row-among-places}
+use Rattle.climbs.proofs.InLists.{ranked, ranked-in-lists, order-ranked}
+use Rattle.trials.proofs.ByRank.{length-by-rank, gathered-by-rank}
+use Rattle.reasons.proofs.ByRank.{ByRank, points-by-rank, limits-of-rank}
+use Rattle.reasons.proofs.limit_of.Statement.{statement}
+use Rattle.reasons.proofs.limit_of.Tie as tie
+
+-- the order has a place for each row
+first-places : (start : tie.Start) → length (take (length (start .args .c .now)) (start .args .order .now)) ≡ length (start .args .c .now)
+first-places start =
+    length-take-le (length (start .args .c .now)) (start .args .order .now) (ranked-long (start .args .c .now) (start .args .d .now) (start .args .order .now) (start .pre .0 .0 .as-many-deadlines) (start .pre .1 .0))
+
+-- and they are places of each list
+places : (start : tie.Start) {n : ℕ} → length (start .args .c .now) ≤ n
+    → let first = take (length (start .args .c .now)) (start .args .order .now) in (length first ≤ 24) × All (λ h. h < n) first
+places start = places-of-rows (start .args .c .now) (start .args .d .now) (start .args .order .now) (start .pre .0 .0 .as-many-deadlines) (start .pre .1 .0) (start .pre .0 .0 .no-25th)
+
+slice-aggregate-by-rank : tie.Need-slice-aggregate-by-rank
+slice-aggregate-by-rank c = sym (first-places (c .before .before .before .before .before))
+
+gather-requires : tie.Need-gather-requires
+gather-requires c κs = places (c .before .before .before .before .before) (omega arith)
+
+gather-requires-2 : tie.Need-gather-requires-2
+gather-requires-2 c κs = let start = c .before .before .before .before .before .before in places start (omega (arith, start .pre .0 .0 .as-many-deadlines))
+
+gather-requires-3 : tie.Need-gather-requires-3
+gather-requires-3 c κs = let start = c .before .before .before .before .before .before .before in places start (omega (arith, start .pre .0 .0 .as-many-periods))
+
+-- the fronts of the three arrays have the numbers by rank
+fronts : (c : tie.After-gather3)
+    → let start = c .before .before .before .before .before .before .before .before in
+    let n = length (start .args .c .now) in
+    ByRank (start .args .c .now) (start .args .d .now) (start .args .t .now) (take n (c .before .before .gather .result)) (take n (c .before .gather2 .result)) (take n (c .gather3 .result))
+fronts c =
+    let start = c .before .before .before .before .before .before .before .before in
+    let ds = start .args .d .now in
+    let order = start .args .order .now in
+    let all : length (start .args .c .now) ≡ length ds = sym (start .pre .0 .0 .as-many-deadlines) in
+    record {
+      executions-by-rank = gathered-by-rank ds order (start .args .c .now) (c .before .before .gather .result) _ all (start .pre .1 .0) (c .before .before .gather .ensures .0);
+      deadlines-by-rank = gathered-by-rank ds order ds (c .before .gather2 .result) _ all (start .pre .1 .0) (c .before .gather2 .ensures .0);
+      periods-by-rank = gathered-by-rank ds order (start .args .t .now) (c .gather3 .result) _ all (start .pre .1 .0) (c .gather3 .ensures .0);
+    }
+
+array-share-prefix-cs : tie.Need-array-share-prefix-cs
+array-share-prefix-cs c = search needs
+
+-- the front of an array of 24 has as many numbers as there are rows
+front-long : (start : tie.Start) (array : List ℕ) → length array ≡ 24 → length (start .args .c .now) ≡ length (take (length (start .args .c .now)) array)
+front-long start array long = sym (length-take-le (length (start .args .c .now)) array (omega (arith, long, start .pre .0 .0 .no-25th)))
+
+slice-aggregate-limit-at : tie.Need-slice-aggregate-limit-at
+slice-aggregate-limit-at c = front-long (c .before .before .before .before .before .before .before .before .before) (c .before .before .before .gather .result) (c .before .before .before .gather .ensures .1)
+
+array-share-prefix-ds : tie.Need-array-share-prefix-ds
+array-share-prefix-ds c = search needs
+
+slice-aggregate-limit-at-2 : tie.Need-slice-aggregate-limit-at-2
+slice-aggregate-limit-at-2 c = front-long (c .before .before .before .before .before .before .before .before .before .before) (c .before .before .before .gather2 .result) (c .before .before .before .gather2 .ensures .1)
+
+array-share-prefix-ts : tie.Need-array-share-prefix-ts
+array-share-prefix-ts c = search needs
+
+slice-aggregate-limit-at-3 : tie.Need-slice-aggregate-limit-at-3
+slice-aggregate-limit-at-3 c = front-long (c .before .before .before .before .before .before .before .before .before .before .before) (c .before .before .before .gather3 .result) (c .before .before .before .gather3 .ensures .1)
+
+place-of-requires : tie.Need-place-of-requires
+place-of-requires c κs =
+    let start = c .before .before .before .before .before .before .before .before .before .before .before in
+    (omega (arith, first-places start, start .pre .0 .0 .no-25th), row-among-places (start .args .c .now) (start .args .d .now) (start .args .order .now) (start .pre .0 .0 .as-many-deadlines) (start .pre .1 .0) (start .args .i) (start .pre .1 .1 .1))
+
+-- the place found is that of a row
+place-inside : (c : tie.After-place-of) → c .place-of .result < length (c .before .before .before .before .before .before .before .before .before .before .before .before .args .c .now)
+place-inside c = omega (arith, c .place-of .ensures .0, first-places (c .before .before .before .before .before .before .before .before .before .before .before .before))
+
+limit-at-requires : tie.Need-limit-at-requires
+limit-at-requires c κs =
+    let start = c .before .before .before .before .before .before .before .before .before .before .before .before in (
+      points-by-rank (start .args .c .now) (start .args .d .now) (start .args .t .now) (start .pre .0 .0) (start .pre .0 .1) (start .pre .1 .1 .0) (fronts (c .before .before .before .before)),
+      omega (arith, place-inside c, front-long start (c .before .before .before .before .before .before .gather .result) (c .before .before .before .before .before .before .gather .ensures .1)),
+    )
+
+-- the limiting row's place is that of a row
+limiting-inside : (c : tie.After-limit-at) → c .limit-at .result .row < length (c .before .before .before .before .before .before .before .before .before .before .before .before .before .args .c .now)
+limiting-inside c = omega (arith, c .limit-at .ensures .inside, front-long (c .before .before .before .before .before .before .before .before .before .before .before .before .before) (c .before .before .before .before .before .before .before .gather .result) (c .before .before .before .before .before .before .before .gather .ensures .1))
+
+mul-row : tie.Need-mul-row
+mul-row c = omega (arith, limiting-inside c, c .before .before .before .before .before .before .before .before .before .before .before .before .before .pre .0 .0 .no-25th)
+
+element-copy-out-row : tie.Need-element-copy-out-row
+element-copy-out-row c = omega (arith, limiting-inside c, c .before .before .before .before .before .before .before .before .before .before .before .before .before .pre .0 .0 .no-25th)
+
+returns : tie.Need-returns
+returns c =
+    let start = c .before .before .before .before .before .before .before .before .before .before .before .before .before .before in
+    let cs = start .args .c .now in
+    let ds = start .args .d .now in
+    let ts = start .args .t .now in
+    let shaped = start .pre .0 .0 in
+    let row = c .before .limit-at .result .row in
+    let place = c .before .before .place-of .result in
+    let ranked-row : ranked cs ds ts shaped row ≡ getD (start .args .order .now) row 0 = sym (order-ranked cs ds ts shaped (start .args .order .now) (start .pre .1 .0) row (limiting-inside (c .before))) in
+    let is-row : ranked cs ds ts shaped place ≡ start .args .i =
+    sym (order-ranked cs ds ts shaped (start .args .order .now) (start .pre .1 .0) place (place-inside (c .before .before)))
+    ∙ sym (getD-take (length cs) (start .args .order .now) place 0 (place-inside (c .before .before)))
+    ∙ c .before .before .place-of .ensures .1 in (
+      subst (λ (i : ℕ). Limits (rowsOf cs ds ts) i (getD (start .args .order .now) row 0) (c .before .limit-at .result .point)) is-row
+          (subst (λ (k : ℕ). Limits (rowsOf cs ds ts) (ranked cs ds ts shaped place) k (c .before .limit-at .result .point)) ranked-row
+          (limits-of-rank cs ds ts shaped (start .pre .0 .1) (start .pre .1 .1 .0) (fronts (c .before .before .before .before .before .before)) place (place-inside (c .before .before)) row (c .before .limit-at .result .point) (c .before .limit-at .ensures))),
+      subst (λ (k : ℕ). k < length cs) ranked-row (ranked-in-lists cs ds ts shaped row (limiting-inside (c .before))),
+    )
+
+pub limit-of-spec : {M : Type 1} → statement M
+limit-of-spec =
+    tie.close
+    (tie.spec
+    slice-aggregate-by-rank
+    gather-requires
+    gather-requires-2
+    gather-requires-3
+    array-share-prefix-cs
+    slice-aggregate-limit-at
+    array-share-prefix-ds
+    slice-aggregate-limit-at-2
+    array-share-prefix-ts
+    slice-aggregate-limit-at-3
+    place-of-requires
+    limit-at-requires
+    mul-row
+    element-copy-out-row
+    returns)
