@@ -1,5 +1,5 @@
 -- One test that computes, for every kind of sheet.
-use Prim.Native.Nat.{ℕ, suc, _-_, _%_}
+use Prim.Native.Nat.{ℕ, zero, suc, _%_}
 use mathlib.Core.Bool.{Bool, true, false, _&&_, _||_, not}
 use mathlib.Core.List.{List, [], _∷_, map}
 use lib.Dec.{leb, ltb, eqb}
@@ -58,11 +58,16 @@ refusesWith (noCoreTakes i) number row = eqb 6 number && eqb (suc i) row
 unfoldable pub missesFirst : List Row → ℕ → Bool
 missesFirst rows k = ltb k (length rows) && (not (inTime (outcome rows k)) && every (λ h. not (above rows h k) || inTime (outcome rows h)) (places rows))
 
+-- whether a number and a row are refusal 8 with the first row in rank that misses
+unfoldable pub refusesLate : List Row → ℕ → ℕ → Bool
+refusesLate rows number zero = false
+refusesLate rows number (suc k) = eqb 8 number && missesFirst rows k
+
 -- THE TEST of a sheet
 unfoldable pub passes : Sheet → Bool
 passes (set-accepted rows responses allowances) =
     isSet rows && (onTime rows && (sameList (map (λ k. responseOf (outcome rows k)) (places rows)) responses && sameList (map (allowance rows) (places rows)) allowances))
-passes (set-refused rows number row) = isSet rows && ((eqb 8 number && eqb (suc (row - 1)) row) && missesFirst rows (row - 1))
+passes (set-refused rows number row) = isSet rows && refusesLate rows number row
 passes (below-one rows P) = every (λ k. eqb (P % rowAt rows k .T) 0) (places rows) && ltb (work rows P) P
 passes (walk-yields rows k times) = sameList (points rows k) times
 passes (points-as-set rows k times) = every (oneOf times) (points rows k) && every (oneOf (points rows k)) times
