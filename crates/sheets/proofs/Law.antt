@@ -142,7 +142,7 @@ module _ (rows : List Row) (t : T (isSet rows)) where
   abbrev given : List Row
   given = rowsOf (executions rows) (deadlines rows) (periods rows)
 
-  carried : (P : List Row → Type 0) → P rows → P given
+  pub carried : (P : List Row → Type 0) → P rows → P given
   carried P p = subst P (sym (rows-of-columns rows)) p
 
   -- where one service gives an answer on long enough lists, both do

@@ -20,10 +20,11 @@ use Rattle.placement.specs.Order.{taken}
 use Rattle.placement.specs.Choice.{allowanceFit}
 use Rattle.placement.specs.Computed.{takes, candidateAt, takers, chosenOf, stepOf, run, figuresOf, certificateOf, certificate, responseOf}
 use Rattle.listing.specs.Listing.{ascii, headerLine, digitsBefore, decimal, rowLine, rowLines, smallestAllowance, systemAllowance, listing, refusal}
-use Rattle.sheets.specs.Sheets.{Sheet, set-accepted, set-refused, below-one, walk-yields, points-as-set, bound-on, slack-at, quotient-at, order-taken, listed, table-refused, Holds, sheets}
-use Rattle.sheets.proofs.Test.{sameList, oneOf, isSet, isTable, textOf, refusesWith, missesFirst, refusesLate, passes, allPass}
+use Rattle.sheets.specs.Sheets.{Sheet, set-accepted, set-refused, below-one, walk-yields, points-as-set, bound-on, slack-at, quotient-at, order-taken, listed, table-refused, limited-by, why-refused, Holds, sheets}
+use Rattle.sheets.proofs.Test.{sameList, oneOf, isSet, isTable, textOf, refusesWith, missesFirst, refusesLate, isFirst, limitedAt, whyRefused, passes, allPass}
 use Rattle.sheets.proofs.Law.{same-list, same-signed, one-of, each-place, accepted-holds, misses-holds}
 use Rattle.sheets.proofs.Certificate.{listed-holds, refused-holds}
+use Rattle.sheets.proofs.Explanation.{limited-holds, why-refused-holds}
 
 -- THE LAW
 pub sheet-holds : (sheet : Sheet) → T (passes sheet) → Holds sheet
@@ -59,6 +60,12 @@ sheet-holds (listed table text) t =
 sheet-holds (table-refused table number row) t =
     let refuses = refusesWith (certificate allowanceFit table) number row in
     refused-holds table (and-first (isTable table) refuses t) number row (and-second (isTable table) refuses t)
+sheet-holds (limited-by rows row limiting p) t =
+    let limits = limitedAt rows row limiting p in
+    limited-holds rows (and-first (isSet rows) limits t) row limiting p (and-second (isSet rows) limits t)
+sheet-holds (why-refused rows asked number row) t =
+    let refuses = whyRefused rows asked number row in
+    why-refused-holds rows (and-first (isSet rows) refuses t) asked number row (and-second (isSet rows) refuses t)
 
 each-holds : (some : List Sheet) → T (allPass some) → (sheet : Sheet) → List·Memᴰ sheet some → Holds sheet
 unfolding allPass
@@ -71,7 +78,7 @@ each-holds (first ∷ others) t sheet m = go (each-holds others (and-second (pas
 
 -- the test, computed over the whole list
 all-pass : T (allPass sheets)
-unfolding sheets allPass passes sameList oneOf isSet isTable missesFirst refusesLate upFrom keep sum every insert sort best rivals levels ceil demand load climb outcome onTime lastMultiple walk points slack floorDiv times quotient bound pointAllowance allowance coreAllowance work coreRows placeOnCore taken takes candidateAt takers chosenOf stepOf run figuresOf certificateOf certificate ascii headerLine digitsBefore decimal rowLine rowLines smallestAllowance systemAllowance listing refusal
+unfolding sheets allPass passes sameList oneOf isSet isTable missesFirst refusesLate isFirst limitedAt whyRefused upFrom keep sum every insert sort best rivals levels ceil demand load climb outcome onTime lastMultiple walk points slack floorDiv times quotient bound pointAllowance allowance coreAllowance work coreRows placeOnCore taken takes candidateAt takers chosenOf stepOf run figuresOf certificateOf certificate ascii headerLine digitsBefore decimal rowLine rowLines smallestAllowance systemAllowance listing refusal
 all-pass = tt
 
 -- EVERY SHEET HOLDS
