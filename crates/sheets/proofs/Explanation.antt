@@ -18,7 +18,6 @@ use Rattle.theory.specs.Allowance.{raised}
 use Rattle.theory.specs.Points.{points, quotient, bound, allowance, IsBound}
 use Rattle.theory.specs.Explanation.{Limits, Explained, row-not-in-set, row-misses, limited}
 use Rattle.theory.proofs.Tests.{and-both, and-first, and-second}
-use Rattle.theory.proofs.Each.{T-false}
 use Rattle.theory.proofs.Verdict.{AllSteady, within-steady}
 use Rattle.theory.proofs.Bound.{bound-is, bound-unique}
 use Rattle.theory.proofs.Allowance.{raised-steady, allowance-is}

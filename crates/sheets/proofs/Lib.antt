@@ -7,3 +7,4 @@ pub mod Explanation
 pub mod Sheets
 pub mod ShutOut
 pub mod TableShutOut
+pub mod ExplanationShutOut

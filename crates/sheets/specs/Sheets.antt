@@ -132,7 +132,8 @@ sheets =
     ∷ limited-by (row 1 1 1 ∷ []) 1 1 1
     -- 1/3/3 is limited by 2/5/5 at 3, the first of two points with the quotient 0
     ∷ limited-by (row 1 3 3 ∷ row 2 5 5 ∷ []) 1 2 3
-    -- refused: row 5 of the four with 10, row 0; row 1 of sheet 8, where row 2 misses, with 8
+    -- refused: row 5 of the four with 10, row 0; row 1 of sheet 8, where row 2 misses, with 8, and a row 3 of it with 10 before that
     ∷ why-refused theFour 5 10 0
     ∷ why-refused (row 5 10 10 ∷ row 6 14 14 ∷ []) 1 8 2
+    ∷ why-refused (row 5 10 10 ∷ row 6 14 14 ∷ []) 3 10 0
     ∷ []
