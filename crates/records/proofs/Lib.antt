@@ -9,4 +9,5 @@ pub mod Report
 pub mod ReportFigures
 pub mod ListBytes
 pub mod BytesAnswered
+pub mod BytesExplained
 pub mod Longest

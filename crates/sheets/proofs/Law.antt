@@ -1,6 +1,6 @@
 -- The law that turns the test of a sheet into what the sheet says.
 use mathlib.Core.Path.{_≡_, refl, sym, ap, _∙_, subst}
-use Prim.Native.Nat.{ℕ, suc, _≤_, _<_, zero-le}
+use Prim.Native.Nat.{ℕ, zero, suc, _≤_, _<_, zero-le}
 use mathlib.Core.Bool.{Bool, _&&_, _||_, not}
 use mathlib.Core.Logic.{_⊎_, inl, inr, ⊎-elim}
 use mathlib.Core.List.{List, [], _∷_, map, List·Memᴰ, List·Memᴰ·head, List·Memᴰ·tail}
@@ -32,7 +32,7 @@ use Rattle.placement.specs.Computed.{responseOf}
 use Rattle.placement.proofs.Computed.{response-of-is}
 use Rattle.sheets.specs.Sheets.{executions, deadlines, periods, BothAnswer}
 use Rattle.sheets.proofs.Columns.{rows-of-columns}
-use Rattle.sheets.proofs.Test.{sameList, sameSigned, oneOf, isSet, missesFirst}
+use Rattle.sheets.proofs.Test.{sameList, sameSigned, oneOf, isSet, missesFirst, refusesLate}
 
 -- ---- the parts of the tests
 
@@ -59,6 +59,54 @@ one-of (x ∷ xs) n t = go (one-of xs n) (or-cases (eqb n x) (oneOf xs n) t)
 -- what holds of each place of a set, by a test of each
 pub each-place : (test : ℕ → Bool) (rows : List Row) → T (every test (places rows)) → (k : ℕ) → k < length rows → T (test k)
 each-place test rows t k h = all-at (λ x. T (test x)) (mem-upFrom 0 (length rows) k zero-le (omega arith)) (every-all test (places rows) t)
+
+-- ---- the first row in rank that misses, of any rows that run
+
+module _ (rows : List Row) (runs : (k : ℕ) → k < length rows → 1 ≤ rowAt rows k .C) where
+  -- an outcome in time is one that meets, and another is one that misses
+  in-time-meets : (k : ℕ) (o : Outcome) → IsOutcome rows k o → T (inTime o) → Meets rows k
+  in-time-meets k (responds R) is i = record { response = R; is-response = is .0; by-deadline = is .1 }
+  in-time-meets k misses is i = absurd i
+
+  late-misses : (k : ℕ) (o : Outcome) → IsOutcome rows k o → T (not (inTime o)) → Meets rows k → ⊥
+  late-misses k (responds R) is l m = l
+  late-misses k misses is l m = is m
+
+  pub first-miss : (k : ℕ) → T (missesFirst rows k) → FirstMiss rows k
+  unfolding missesFirst
+  first-miss k misses-first = record {
+    in-set = inside;
+    misses = late-misses k (outcome rows k) (outcome-right rows k (runs k inside)) (and-first late above-in-time tests);
+    above-meet = λ h in-set ranks.
+        in-time-meets h (outcome rows h) (outcome-right rows h (runs h in-set))
+        (⊎-elim
+        (λ n. absurd (T-not (above rows h k) n ranks))
+        (λ i. i)
+        (or-cases (not (above rows h k)) (inTime (outcome rows h)) (each-place (λ x. not (above rows x k) || inTime (outcome rows x)) rows (and-second late above-in-time tests) h in-set)));
+  }
+    where
+      late : Bool
+      late = not (inTime (outcome rows k))
+
+      above-in-time : Bool
+      above-in-time = every (λ h. not (above rows h k) || inTime (outcome rows h)) (places rows)
+
+      inside : k < length rows
+      inside = ltb→lt k (length rows) (and-first (ltb k (length rows)) (late && above-in-time) misses-first)
+
+      tests : T (late && above-in-time)
+      tests = and-second (ltb k (length rows)) (late && above-in-time) misses-first
+
+  -- what is returned with refusal 8, for each row that may be the first, is returned with a number and a row that pass
+  pub refused-late : (Answer : Returned → Type 0) → ((k : ℕ) → FirstMiss rows k → Answer (returned 8 (suc k)))
+      → (number row : ℕ)
+      → T (refusesLate rows number row)
+      → Answer (returned number row)
+  unfolding refusesLate
+  refused-late Answer each number zero t = absurd t
+  refused-late Answer each number (suc k) t =
+      subst (λ (n : ℕ). Answer (returned n (suc k))) (eqb→eq 8 number (and-first (eqb 8 number) (missesFirst rows k) t))
+      (each k (first-miss k (and-second (eqb 8 number) (missesFirst rows k) t)))
 
 -- ---- one set
 
@@ -94,7 +142,7 @@ module _ (rows : List Row) (t : T (isSet rows)) where
   abbrev given : List Row
   given = rowsOf (executions rows) (deadlines rows) (periods rows)
 
-  carried : (P : List Row → Type 0) → P rows → P given
+  pub carried : (P : List Row → Type 0) → P rows → P given
   carried P p = subst P (sym (rows-of-columns rows)) p
 
   -- where one service gives an answer on long enough lists, both do
@@ -134,43 +182,9 @@ module _ (rows : List Row) (t : T (isSet rows)) where
       all : AllMeet rows
       all = on-time-meets rows (within-steady rows set-within) on-time
 
-  -- an outcome in time is one that meets, and another is one that misses
-  in-time-meets : (k : ℕ) (o : Outcome) → IsOutcome rows k o → T (inTime o) → Meets rows k
-  in-time-meets k (responds R) is i = record { response = R; is-response = is .0; by-deadline = is .1 }
-  in-time-meets k misses is i = absurd i
-
-  late-misses : (k : ℕ) (o : Outcome) → IsOutcome rows k o → T (not (inTime o)) → Meets rows k → ⊥
-  late-misses k (responds R) is l m = l
-  late-misses k misses is l m = is m
-
-  pub misses-holds : (k : ℕ)
-      → T (missesFirst rows k)
-      → BothAnswer rows (returned 8 (suc k)) (λ before. before) (λ before. before)
-  unfolding missesFirst
-  misses-holds k misses-first =
+  pub misses-holds : (number row : ℕ) → T (refusesLate rows number row) → BothAnswer rows (returned number row) (λ before. before) (λ before. before)
+  misses-holds =
+      refused-late rows (λ k h. set-within k h .runs) (λ (r : Returned). BothAnswer rows r (λ before. before) (λ before. before))
+      (λ k first.
       both-answer (returned 8 (suc k)) (λ before. before) (λ before. before)
-      (λ rs ls r a. row-misses k set-shaped (carried AllWithin set-within) r a (carried (λ rows. FirstMiss rows k) first))
-    where
-      late : Bool
-      late = not (inTime (outcome rows k))
-
-      above-in-time : Bool
-      above-in-time = every (λ h. not (above rows h k) || inTime (outcome rows h)) (places rows)
-
-      inside : k < length rows
-      inside = ltb→lt k (length rows) (and-first (ltb k (length rows)) (late && above-in-time) misses-first)
-
-      tests : T (late && above-in-time)
-      tests = and-second (ltb k (length rows)) (late && above-in-time) misses-first
-
-      first : FirstMiss rows k
-      first = record {
-        in-set = inside;
-        misses = late-misses k (outcome rows k) (outcome-right rows k (set-within k inside .runs)) (and-first late above-in-time tests);
-        above-meet = λ h in-set ranks.
-            in-time-meets h (outcome rows h) (outcome-right rows h (set-within h in-set .runs))
-            (⊎-elim
-            (λ n. absurd (T-not (above rows h k) n ranks))
-            (λ i. i)
-            (or-cases (not (above rows h k)) (inTime (outcome rows h)) (each-place (λ x. not (above rows x k) || inTime (outcome rows x)) rows (and-second late above-in-time tests) h in-set)));
-      }
+      (λ rs ls r a. row-misses k set-shaped (carried AllWithin set-within) r a (carried (λ rows. FirstMiss rows k) first)))

@@ -3,6 +3,8 @@ pub mod Columns
 pub mod Test
 pub mod Law
 pub mod Certificate
+pub mod Explanation
 pub mod Sheets
 pub mod ShutOut
 pub mod TableShutOut
+pub mod ExplanationShutOut

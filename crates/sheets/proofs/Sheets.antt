@@ -1,11 +1,10 @@
 -- THE SHEETS HOLD: one computed test over the whole list, and one law that turns the test into what each sheet says.
 use mathlib.Core.Path.{_≡_, subst, sym}
-use Prim.Native.Nat.{suc, _-_, _%_}
+use Prim.Native.Nat.{_%_}
 use mathlib.Core.Bool.{_&&_}
 use mathlib.Core.Logic.{_⊎_, inl, inr}
 use mathlib.Core.List.{List, [], _∷_, map, List·Memᴰ, List·Memᴰ·cases-cons}
 use lib.Dec.{T, ltb, eqb, ltb→lt, eqb→eq}
-use Rattle.theory.specs.Returned.{Returned}
 use Rattle.theory.specs.Row.{rowAt}
 use Rattle.theory.specs.Gather.{upFrom, keep, sum, every, insert, sort, best}
 use Rattle.theory.specs.Rank.{places, rivals, levels}
@@ -21,10 +20,11 @@ use Rattle.placement.specs.Order.{taken}
 use Rattle.placement.specs.Choice.{allowanceFit}
 use Rattle.placement.specs.Computed.{takes, candidateAt, takers, chosenOf, stepOf, run, figuresOf, certificateOf, certificate, responseOf}
 use Rattle.listing.specs.Listing.{ascii, headerLine, digitsBefore, decimal, rowLine, rowLines, smallestAllowance, systemAllowance, listing, refusal}
-use Rattle.sheets.specs.Sheets.{Sheet, set-accepted, set-refused, below-one, walk-yields, points-as-set, bound-on, slack-at, quotient-at, order-taken, listed, table-refused, BothAnswer, Holds, sheets}
-use Rattle.sheets.proofs.Test.{sameList, oneOf, isSet, isTable, textOf, refusesWith, missesFirst, passes, allPass}
+use Rattle.sheets.specs.Sheets.{Sheet, set-accepted, set-refused, below-one, walk-yields, points-as-set, bound-on, slack-at, quotient-at, order-taken, listed, table-refused, limited-by, why-refused, Holds, sheets}
+use Rattle.sheets.proofs.Test.{sameList, oneOf, isSet, isTable, textOf, refusesWith, missesFirst, refusesLate, isFirst, limitedAt, whyRefused, passes, allPass}
 use Rattle.sheets.proofs.Law.{same-list, same-signed, one-of, each-place, accepted-holds, misses-holds}
 use Rattle.sheets.proofs.Certificate.{listed-holds, refused-holds}
+use Rattle.sheets.proofs.Explanation.{limited-holds, why-refused-holds}
 
 -- THE LAW
 pub sheet-holds : (sheet : Sheet) → T (passes sheet) → Holds sheet
@@ -39,14 +39,7 @@ sheet-holds (set-accepted rows responses allowances) t =
     (same-list _ _ (and-first same-responses same-allowances figures))
     (same-list _ _ (and-second same-responses same-allowances figures))
 sheet-holds (set-refused rows number row) t =
-    let numbers = eqb 8 number && eqb (suc (row - 1)) row in
-    let misses = missesFirst rows (row - 1) in
-    let after : T (numbers && misses) = and-second (isSet rows) (numbers && misses) t in
-    let right : T numbers = and-first numbers misses after in
-    let eight : 8 ≡ number = eqb→eq 8 number (and-first (eqb 8 number) (eqb (suc (row - 1)) row) right) in
-    let its-row : suc (row - 1) ≡ row = eqb→eq (suc (row - 1)) row (and-second (eqb 8 number) (eqb (suc (row - 1)) row) right) in
-    subst (λ (r : Returned). BothAnswer rows r (λ before. before) (λ before. before)) (cc)
-    (misses-holds rows (and-first (isSet rows) (numbers && misses) t) (row - 1) (and-second numbers misses after))
+    misses-holds rows (and-first (isSet rows) (refusesLate rows number row) t) number row (and-second (isSet rows) (refusesLate rows number row) t)
 sheet-holds (below-one rows P) t =
     let common = every (λ k. eqb (P % rowAt rows k .T) 0) (places rows) in (
       λ k h. eqb→eq (P % rowAt rows k .T) 0 (each-place (λ x. eqb (P % rowAt rows x .T) 0) rows (and-first common (ltb (work rows P) P) t) k h),
@@ -67,6 +60,12 @@ sheet-holds (listed table text) t =
 sheet-holds (table-refused table number row) t =
     let refuses = refusesWith (certificate allowanceFit table) number row in
     refused-holds table (and-first (isTable table) refuses t) number row (and-second (isTable table) refuses t)
+sheet-holds (limited-by rows row limiting p) t =
+    let limits = limitedAt rows row limiting p in
+    limited-holds rows (and-first (isSet rows) limits t) row limiting p (and-second (isSet rows) limits t)
+sheet-holds (why-refused rows asked number row) t =
+    let refuses = whyRefused rows asked number row in
+    why-refused-holds rows (and-first (isSet rows) refuses t) asked number row (and-second (isSet rows) refuses t)
 
 each-holds : (some : List Sheet) → T (allPass some) → (sheet : Sheet) → List·Memᴰ sheet some → Holds sheet
 unfolding allPass
@@ -79,7 +78,7 @@ each-holds (first ∷ others) t sheet m = go (each-holds others (and-second (pas
 
 -- the test, computed over the whole list
 all-pass : T (allPass sheets)
-unfolding sheets allPass passes sameList oneOf isSet isTable missesFirst upFrom keep sum every insert sort best rivals levels ceil demand load climb outcome onTime lastMultiple walk points slack floorDiv times quotient bound pointAllowance allowance coreAllowance work coreRows placeOnCore taken takes candidateAt takers chosenOf stepOf run figuresOf certificateOf certificate ascii headerLine digitsBefore decimal rowLine rowLines smallestAllowance systemAllowance listing refusal
+unfolding sheets allPass passes sameList oneOf isSet isTable missesFirst refusesLate isFirst limitedAt whyRefused upFrom keep sum every insert sort best rivals levels ceil demand load climb outcome onTime lastMultiple walk points slack floorDiv times quotient bound pointAllowance allowance coreAllowance work coreRows placeOnCore taken takes candidateAt takers chosenOf stepOf run figuresOf certificateOf certificate ascii headerLine digitsBefore decimal rowLine rowLines smallestAllowance systemAllowance listing refusal
 all-pass = tt
 
 -- EVERY SHEET HOLDS

@@ -1,2 +1,2 @@
--- Document 01, "Sheets to reproduce": those marked P.
+-- Document 01, "Sheets to reproduce": those marked P; and those of document 02's request 1.
 pub mod Sheets

@@ -1,4 +1,4 @@
--- Sheets 1 to 10 of document 01, as one list, and what each entry says.
+-- Sheets 1 to 10 of document 01 and those of document 02's request 1, as one list, and what each entry says.
 use mathlib.Core.Path.{_≡_}
 use Prim.Native.Nat.{ℕ, _≤_, _<_}
 use mathlib.Core.Logic.{_↔_}
@@ -10,6 +10,7 @@ use Rattle.theory.specs.Row.{Row}
 use Rattle.theory.specs.Points.{points, slack, quotient, IsBound}
 use Rattle.theory.specs.Utilisation.{CommonMultiple, work}
 use Rattle.theory.specs.Lists.{filled, SetAnswered, PointAnswered}
+use Rattle.theory.specs.Explanation.{Explained}
 use Rattle.placement.specs.Core.{Table}
 use Rattle.placement.specs.Order.{taken}
 use Rattle.placement.specs.Choice.{allowanceFit}
@@ -17,7 +18,8 @@ use Rattle.records.specs.Report.{tableBytes, reportLength}
 use Rattle.listing.specs.Listing.{ascii}
 use Rattle.service.specs.Table.{TableAnswered, Listed}
 
--- what a sheet says. Rows go by their places, which count from 0: place 1 is row 2. A refusal is its number and its row, which counts from 1
+-- what a sheet says. Rows go by their places, which count from 0: place 1 is row 2. A refusal is its number and its row, which counts from 1; so do the rows
+-- of an explanation: the row asked about, and the row that limits it
 pub data Sheet : Type 0 where
   set-accepted : List Row → List ℕ → List ℕ → Sheet
   set-refused : List Row → ℕ → ℕ → Sheet
@@ -30,6 +32,8 @@ pub data Sheet : Type 0 where
   order-taken : List Row → List ℕ → Sheet
   listed : Table → List ℕ → Sheet
   table-refused : Table → ℕ → ℕ → Sheet
+  limited-by : List Row → ℕ → ℕ → ℕ → Sheet
+  why-refused : List Row → ℕ → ℕ → ℕ → Sheet
 
 -- the three lists that a set's rows are
 abbrev pub executions : List Row → List ℕ
@@ -64,6 +68,8 @@ Holds (order-taken rows order) = taken rows ≡ order
 Holds (listed table text) = Listed allowanceFit (tableBytes table) text
 Holds (table-refused table number row) =
     (report : List ℕ) → reportLength (length (table .rows)) ≤ length report → TableAnswered allowanceFit (tableBytes table) report (returned number row) report
+Holds (limited-by rows row limiting p) = Explained (executions rows) (deadlines rows) (periods rows) row (returned 0 0) limiting p
+Holds (why-refused rows asked number row) = Explained (executions rows) (deadlines rows) (periods rows) asked (returned number row) 0 0
 
 -- a row, written C/D/T in the document
 unfoldable pub row : ℕ → ℕ → ℕ → Row
@@ -117,4 +123,17 @@ sheets =
     ∷ set-refused (row 5 10 10 ∷ row 11 20 20 ∷ []) 8 2
     ∷ slack-at (row 5 10 10 ∷ row 11 20 20 ∷ []) 1 20 (negsuc 0)
     ∷ quotient-at (row 5 10 10 ∷ row 11 20 20 ∷ []) 1 0 20 (negsuc 0)
+    -- document 02, request 1: rows 1, 2 and 3 of the four are limited by row 4 at 200, row 4 by itself at 260
+    ∷ limited-by theFour 1 4 200
+    ∷ limited-by theFour 2 4 200
+    ∷ limited-by theFour 3 4 200
+    ∷ limited-by theFour 4 4 260
+    -- 1/1/1 alone is limited by itself at 1
+    ∷ limited-by (row 1 1 1 ∷ []) 1 1 1
+    -- 1/3/3 is limited by 2/5/5 at 3, the first of two points with the quotient 0
+    ∷ limited-by (row 1 3 3 ∷ row 2 5 5 ∷ []) 1 2 3
+    -- refused: row 5 of the four with 10, row 0; row 1 of sheet 8, where row 2 misses, with 8, and a row 3 of it with 10 before that
+    ∷ why-refused theFour 5 10 0
+    ∷ why-refused (row 5 10 10 ∷ row 6 14 14 ∷ []) 1 8 2
+    ∷ why-refused (row 5 10 10 ∷ row 6 14 14 ∷ []) 3 10 0
     ∷ []
