@@ -1,2 +1,2 @@
--- What the two list services have in common.
+-- What the list services have in common.
 pub mod Begun

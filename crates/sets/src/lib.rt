@@ -1,10 +1,13 @@
-// The set service and the point service: document 01, one core's rows as three lists of 32-bit numbers, response times and allowances in two lent lists.
+// The set service and the point service: document 01, one core's rows as three lists of 32-bit numbers, response times and allowances in two lent lists. And the
+// explanation of a row's allowance: document 02, request 1, on the same three lists.
 ghost use mathlib.Core.Path.{_≡_};
 ghost use Prim.Native.Nat.{_≤_};
 ghost use lib.ListN.{length, take};
-ghost use Rattle.theory.specs.Lists.{filled, SetAnswered, PointAnswered};
+ghost use Rattle.theory.specs.Row.{AllWithin};
+ghost use Rattle.theory.specs.Lists.{Shaped, rowsOf, filled, SetAnswered, PointAnswered};
+ghost use Rattle.theory.specs.Explanation.{Explained};
 ghost use Rattle.answers.specs.Answer.{returnedBy};
-ghost use Rattle.sets.specs.Begun.{IsBegun};
+ghost use Rattle.sets.specs.Begun.{IsTimed, IsBegun};
 use answers::Answer;
 use responses::Verdict;
 
@@ -44,18 +47,11 @@ pub struct Begun {
     pub response: [u32; 24],
 }
 
-// The refusals in their order, or the response times.
-fn begin(c: &[u32], d: &[u32], t: &[u32], responses: usize, allowances: usize) -> Begun
-    ensures { λ r. ⌜ IsBegun (now (c .entry)) (now (d .entry)) (now (t .entry)) responses allowances (r .order) (r .response) (r .answer) ⌝ }
+// The response times of rows that passed the checks, or the refusal for the highest-ranked row that misses.
+fn respond(c: &[u32], d: &[u32], t: &[u32]) -> Begun
+    requires { ⌜ Shaped (now c) (now d) (now t) × AllWithin (rowsOf (now c) (now d) (now t)) ⌝ }
+    ensures { λ r. ⌜ IsTimed (now (c .entry)) (now (d .entry)) (now (t .entry)) (r .order) (r .response) (r .answer) ⌝ }
 {
-    let checked = refusals::check_lists(c, d, t, responses, allowances);
-    if answers::number_of(checked) != 0 {
-        return Begun {
-            answer: checked,
-            order: [0; 24],
-            response: [0; 24],
-        };
-    }
     let order = climbs::ranking(d);
     let found = responses::responses_of(c, d, t, &order);
     let verdict = found.verdict;
@@ -72,6 +68,21 @@ fn begin(c: &[u32], d: &[u32], t: &[u32], responses: usize, allowances: usize) -
             response,
         },
     }
+}
+
+// The refusals in their order, or the response times.
+fn begin(c: &[u32], d: &[u32], t: &[u32], responses: usize, allowances: usize) -> Begun
+    ensures { λ r. ⌜ IsBegun (now (c .entry)) (now (d .entry)) (now (t .entry)) responses allowances (r .order) (r .response) (r .answer) ⌝ }
+{
+    let checked = refusals::check_lists(c, d, t, responses, allowances);
+    if answers::number_of(checked) != 0 {
+        return Begun {
+            answer: checked,
+            order: [0; 24],
+            response: [0; 24],
+        };
+    }
+    respond(c, d, t)
 }
 
 // The set service: allowances by trial of the definition.
@@ -118,4 +129,52 @@ pub fn point_service(
     let allowed = points::allowances_by_points(c, d, t, &order);
     deliver(n, &response, &allowed, responses, allowances);
     Answer::Accepted
+}
+
+// Why a row's allowance is not larger: the answer, the number of the row that limits it, and the point at which it does.
+pub struct Explanation {
+    pub answer: Answer,
+    pub limiting: u32,
+    pub point: u32,
+}
+
+// A refusal, with neither row nor point.
+fn unexplained(answer: Answer) -> Explanation
+    ensures { λ r. ⌜ (r .answer ≡ answer) × (r .limiting ≡ 0) × (r .point ≡ 0) ⌝ }
+{
+    Explanation {
+        answer,
+        limiting: 0,
+        point: 0,
+    }
+}
+
+// The explanation of the row with a number, from 1.
+pub fn explain(c: &[u32], d: &[u32], t: &[u32], row: u32) -> Explanation
+    ensures { λ r. ⌜ Explained (now (c .entry)) (now (d .entry)) (now (t .entry)) row (returnedBy (r .answer)) (r .limiting) (r .point) ⌝ }
+{
+    let n = c.len();
+    let checked = refusals::check_lists(c, d, t, n, n);
+    if answers::number_of(checked) != 0 {
+        return unexplained(checked);
+    }
+    if row == 0 {
+        return unexplained(Answer::RowNotInSet);
+    }
+    let i = row as usize - 1;
+    if n <= i {
+        return unexplained(Answer::RowNotInSet);
+    }
+    let begun = respond(c, d, t);
+    let answer = begun.answer;
+    if answers::number_of(answer) != 0 {
+        return unexplained(answer);
+    }
+    let order = begun.order;
+    let limit = reasons::limit_of(c, d, t, &order, i);
+    Explanation {
+        answer: Answer::Accepted,
+        limiting: limit.row as u32 + 1,
+        point: limit.point,
+    }
 }
