@@ -1,7 +1,7 @@
 -- A list service on bytes, from what it returns on the numbers that they are.
 use mathlib.Core.Path.{_≡_, refl, sym, ap, _∙_}
-use Prim.Native.Nat.{ℕ, _%_, _≤_}
-use mathlib.Core.Logic.{_⊎_, inl, inr}
+use Prim.Native.Nat.{ℕ, _≤_}
+use mathlib.Core.Logic.{⊎-elim}
 use mathlib.Core.List.{List, [], _∷_, _++_, flatMap}
 use native.Mathlib.Omega.{arith}
 use lib.ListN.{length, take, length-take}
@@ -9,12 +9,12 @@ use lib.Seq.{take-append-le}
 use Rattle.theory.specs.Returned.{Returned, returned}
 use Rattle.theory.specs.Row.{Row}
 use Rattle.theory.specs.Lists.{filled, Answered, rows-out-of-range}
-use Rattle.theory.proofs.Tests.{equal-or-not}
 use Rattle.records.specs.Number.{fourBytes}
 use Rattle.records.specs.ListBytes.{numbersIn, bytesOf, Fours, BytesAnswered, not-fours, as-numbers}
 use Rattle.records.proofs.Number.{AllBelow, all-below-drop}
 use Rattle.records.proofs.ListBytes.{number-first, kept}
 use Rattle.entries.specs.Lists.{RowBytes, AnsweredInBytes}
+use Rattle.entries.proofs.RowBytes.{no-rows-because}
 use Rattle.entries.proofs.Cut.{CutAnswered, refused-alike, accepted-alike}
 
 -- bytes filled with those of a list of numbers whose front was filled: only the front matters
@@ -60,13 +60,8 @@ module _
 
   -- byte strings that are no rows
   pub no-rows-answered : (cs ds ts : List ℕ) → (RowBytes cs ds ts → ⊥) → BytesAnswered Allowance cs ds ts responses allowances (returned 3 0) responses allowances
-  no-rows-answered cs ds ts none = go (equal-or-not (length cs % 4) 0) (equal-or-not (length ds % 4) 0) (equal-or-not (length ts % 4) 0)
-    where
-      go : Fours cs ⊎ (Fours cs → ⊥) → Fours ds ⊎ (Fours ds → ⊥) → Fours ts ⊎ (Fours ts → ⊥) → BytesAnswered Allowance cs ds ts responses allowances (returned 3 0) responses allowances
-      go (inl c) (inl d) (inl t) = in-bytes-answered cs ds ts (c, d, t) refl refl refl (refused-in-bytes (rows-out-of-range (λ shaped. none (record { fours = (c, d, t); shaped = shaped }))))
-      go (inr n) d t = not-fours (λ fours. n (fours .0))
-      go (inl c) (inr n) t = not-fours (λ fours. n (fours .1))
-      go (inl c) (inl d) (inr n) = not-fours (λ fours. n (fours .2))
+  no-rows-answered cs ds ts none =
+      ⊎-elim not-fours (λ whole. in-bytes-answered cs ds ts (whole .0) refl refl refl (refused-in-bytes (rows-out-of-range (whole .1)))) (no-rows-because cs ds ts none)
 
   -- the service's result on answer lists that are cut to 24 numbers
   module _ {cs ds ts : List ℕ} {returns : Returned} {Rs As : List ℕ} (cut : CutAnswered Allowance cs ds ts (numbersIn responses) (numbersIn allowances) returns Rs As) where

@@ -3,3 +3,4 @@ pub mod Cut
 pub mod RowBytes
 pub mod Bytes
 pub mod Returned
+pub mod Explained

@@ -16,8 +16,9 @@ use Rattle.placement.specs.Choice.{allowanceFit}
 use Rattle.placement.proofs.Fit.{allowance-fit-is-rule}
 use Rattle.records.specs.ListBytes.{numbersIn, BytesAnswered, not-fours, as-numbers}
 use Rattle.records.proofs.BytesAnswered.{bytes-answered-unique}
+use Rattle.records.proofs.BytesExplained.{bytes-explained-unique}
 use Rattle.service.proofs.Table.{table-answered-unique, listing-answered-unique}
-use Rattle.entries.specs.Entry.{TableReturned, ListsReturned, SetReturned, PointReturned, ListingReturned}
+use Rattle.entries.specs.Entry.{TableReturned, ListsReturned, SetReturned, PointReturned, ListingReturned, WhyReturned}
 
 -- what is returned has one number and one row
 number-and-row : {number other row other-row : ℕ} → returned number row ≡ returned other other-row → (number ≡ other) × (row ≡ other-row)
@@ -80,3 +81,13 @@ pub listing-returned-unique : {table listing : List ℕ} {written other : ℕ} {
     → ListingReturned table listing other second
     → (written ≡ other) × (first ≡ second)
 listing-returned-unique {table} p q = listing-answered-unique allowanceFit allowance-fit-is-rule table p q
+
+-- THE EXPLANATION ENTRY'S RESULT IS DETERMINED
+pub why-returned-unique : {cs ds ts : List ℕ} {asked number other row other-row limiting other-limiting point other-point : ℕ}
+    → WhyReturned cs ds ts asked number row limiting point
+    → WhyReturned cs ds ts asked other other-row other-limiting other-point
+    → (number ≡ other) × (row ≡ other-row) × (limiting ≡ other-limiting) × (point ≡ other-point)
+why-returned-unique {cs} {ds} {ts} {asked} p q =
+    let same = bytes-explained-unique cs ds ts asked p q in
+    let numbers = number-and-row (same .same-answer) in
+    (numbers .0, numbers .1, same .same-row, same .same-point)

@@ -2,10 +2,13 @@
 use mathlib.Core.Path.{_≡_}
 use Prim.Native.Nat.{ℕ, _%_, _≤_}
 use mathlib.Core.Bool.{Bool, true, false}
-use mathlib.Core.Logic.{_↔_}
+use mathlib.Core.Logic.{_↔_, _⊎_, inl, inr}
 use mathlib.Core.List.{List}
 use native.Mathlib.Omega.{arith}
 use lib.ListN.{length}
+use Rattle.theory.specs.Lists.{Shaped}
+use Rattle.theory.proofs.Tests.{equal-or-not}
+use Rattle.records.specs.ListBytes.{numbersIn, Fours}
 use Rattle.records.proofs.ListBytes.{numbers-length}
 use Rattle.entries.specs.Lists.{RowBytes}
 
@@ -44,3 +47,17 @@ module _ (cs ds ts : List ℕ) where
   -- the answer `false` is right where there are no rows
   pub told-none : (RowBytes cs ds ts → ⊥) → (_≡_ {A = Bool} false true) ↔ RowBytes cs ds ts
   told-none none = (λ e. absurd (let z : _≡_ {A = ℕ} 0 1 = cc in omega arith), λ rows. absurd (none rows))
+
+  -- byte strings that are no rows: a length is not a multiple of four, or the numbers are not as many as rows have
+  pub no-rows-because : (RowBytes cs ds ts → ⊥)
+      → (Fours cs × Fours ds × Fours ts → ⊥) ⊎ ((Fours cs × Fours ds × Fours ts) × (Shaped (numbersIn cs) (numbersIn ds) (numbersIn ts) → ⊥))
+  no-rows-because none = go (equal-or-not (length cs % 4) 0) (equal-or-not (length ds % 4) 0) (equal-or-not (length ts % 4) 0)
+    where
+      go : Fours cs ⊎ (Fours cs → ⊥)
+          → Fours ds ⊎ (Fours ds → ⊥)
+          → Fours ts ⊎ (Fours ts → ⊥)
+          → (Fours cs × Fours ds × Fours ts → ⊥) ⊎ ((Fours cs × Fours ds × Fours ts) × (Shaped (numbersIn cs) (numbersIn ds) (numbersIn ts) → ⊥))
+      go (inl c) (inl d) (inl t) = inr ((c, d, t), λ shaped. none (record { fours = (c, d, t); shaped = shaped }))
+      go (inr n) d t = inl (λ fours. n (fours .0))
+      go (inl c) (inr n) t = inl (λ fours. n (fours .1))
+      go (inl c) (inl d) (inr n) = inl (λ fours. n (fours .2))

@@ -8,6 +8,7 @@ use Rattle.theory.specs.Allowance.{IsAllowance}
 use Rattle.theory.specs.Points.{IsPointAllowance}
 use Rattle.placement.specs.Choice.{allowanceFit}
 use Rattle.records.specs.ListBytes.{BytesAnswered}
+use Rattle.records.specs.ExplanationBytes.{BytesExplained}
 use Rattle.service.specs.Table.{TableAnswered, ListingAnswered}
 
 -- the table entry on table bytes and a lent report: its number, its row, and the report at the end
@@ -30,3 +31,7 @@ PointReturned = ListsReturned (λ rows i a. IsPointAllowance rows i (pos a))
 -- the listing entry on table bytes and a lent byte string: how many bytes it wrote, and that byte string at the end
 abbrev pub ListingReturned : List ℕ → List ℕ → ℕ → List ℕ → Type 0
 ListingReturned = ListingAnswered allowanceFit
+
+-- the explanation's entry on lists as bytes and the number of a row: its number, its row, the limiting row and the point
+abbrev pub WhyReturned : List ℕ → List ℕ → List ℕ → ℕ → ℕ → ℕ → ℕ → ℕ → Type 0
+WhyReturned cs ds ts asked number row limiting point = BytesExplained cs ds ts asked (returned number row) limiting point

@@ -1,4 +1,4 @@
-// The three services for the front end in C, on numbers and byte strings: document 01, "What the certificate covers". A byte string is a pointer and a length in C;
+// The three services and the explanation for the front end in C, on numbers and byte strings: document 01, "What the certificate covers", and document 02, request 1. A byte string is a pointer and a length in C;
 // what C owes is that there are so many bytes, and that a lent byte string overlaps no other.
 ghost use mathlib.Core.Path.{_≡_};
 ghost use mathlib.Core.Bool.{true};
@@ -7,15 +7,26 @@ ghost use Prim.Native.Nat.{_/_, min};
 ghost use Rattle.answers.specs.Answer.{returnedBy, numberOf, rowOf};
 ghost use Rattle.theory.specs.Lists.{Answered};
 ghost use Rattle.records.specs.ListBytes.{BytesAnswered};
+ghost use Rattle.records.specs.ExplanationBytes.{BytesExplained};
 ghost use Rattle.entries.specs.Lists.{RowBytes, allowanceBy, AnsweredInBytes};
-ghost use Rattle.entries.specs.Entry.{TableReturned, ListsReturned, SetReturned, PointReturned, ListingReturned};
+ghost use Rattle.entries.specs.Entry.{TableReturned, ListsReturned, SetReturned, PointReturned, ListingReturned, WhyReturned};
 use answers::Answer;
+use sets::Explanation;
 
 // An answer as C takes it: its number and its row.
 #[repr(C)]
 pub struct EntryAnswer {
     pub number: u32,
     pub row: u32,
+}
+
+// An explanation as C takes it: the answer's number and row, the number of the limiting row, and the point.
+#[repr(C)]
+pub struct EntryExplanation {
+    pub number: u32,
+    pub row: u32,
+    pub limiting: u32,
+    pub point: u32,
 }
 
 // How allowances are found.
@@ -140,6 +151,20 @@ fn answer_for_c(
     entry_answer(answer_bytes(by, c, d, t, responses, allowances))
 }
 
+// The explanation of a row, with the lists as bytes.
+fn explain_bytes(c: &[u8], d: &[u8], t: &[u8], row: u32) -> Explanation
+    ensures { λ r. ⌜ BytesExplained (now (c .entry)) (now (d .entry)) (now (t .entry)) row (returnedBy (r .answer)) (r .limiting) (r .point) ⌝ }
+{
+    if !are_rows(c, d, t) {
+        return sets::unexplained(Answer::RowsOutOfRange);
+    }
+    let n = c.len() / 4;
+    let cs = numbers::read_numbers(c);
+    let ds = numbers::read_numbers(d);
+    let ts = numbers::read_numbers(t);
+    sets::explain(&cs[..n], &ds[..n], &ts[..n], row)
+}
+
 // The table service.
 #[no_mangle]
 pub extern "C" fn hibalunduk_table(table: &[u8], report: &mut [u8]) -> EntryAnswer
@@ -182,4 +207,20 @@ pub extern "C" fn hibalunduk_listing(table: &[u8], listing: &mut [u8]) -> usize
     ensures { λ r. ⌜ ListingReturned (now (table .entry)) (now (listing .entry)) r (now (listing .exit)) ⌝ }
 {
     tables::list_table(table, listing)
+}
+
+// The explanation of a row: which row limits it, and at which point.
+#[no_mangle]
+pub extern "C" fn hibalunduk_why(c: &[u8], d: &[u8], t: &[u8], row: u32) -> EntryExplanation
+    ensures { λ r. ⌜ WhyReturned (now (c .entry)) (now (d .entry)) (now (t .entry)) row (r .number) (r .row) (r .limiting) (r .point) ⌝ }
+{
+    let explanation = explain_bytes(c, d, t, row);
+    let given = explanation.answer;
+    let answer = entry_answer(given);
+    EntryExplanation {
+        number: answer.number,
+        row: answer.row,
+        limiting: explanation.limiting,
+        point: explanation.point,
+    }
 }

@@ -139,7 +139,7 @@ pub struct Explanation {
 }
 
 // A refusal, with neither row nor point.
-fn unexplained(answer: Answer) -> Explanation
+pub fn unexplained(answer: Answer) -> Explanation
     ensures { λ r. ⌜ (r .answer ≡ answer) × (r .limiting ≡ 0) × (r .point ≡ 0) ⌝ }
 {
     Explanation {
