@@ -14,6 +14,7 @@ static uint8_t pattern(size_t place)
 static void fill(struct called *called)
 {
     called->answer = (struct second_answer){ 0, 0 };
+    called->limited_by = called->point = 0;
     called->first_written = called->second_written = 0;
     for (size_t place = 0; place < OUTPUT_ROOM; place++)
         called->first[place] = called->second[place] = pattern(place);
@@ -71,22 +72,52 @@ void call_listing(listing_service *service, const uint8_t *bytes, size_t len, si
     called->read_kept = free_kept(table, bytes, len);
 }
 
+/* Copies of three lists. */
+struct copies {
+    uint8_t *c, *d, *t;
+};
+
+/* Copies three lists. */
+static struct copies copy_lists(const struct lists *lists)
+{
+    return (struct copies){ exact(lists->c, lists->c_len), exact(lists->d, lists->d_len),
+                            exact(lists->t, lists->t_len) };
+}
+
+/* Frees the copies of three lists; false when one is not as it was. */
+static bool free_lists(struct copies copies, const struct lists *lists)
+{
+    bool c_kept = free_kept(copies.c, lists->c, lists->c_len);
+    bool d_kept = free_kept(copies.d, lists->d, lists->d_len);
+    bool t_kept = free_kept(copies.t, lists->t, lists->t_len);
+
+    return c_kept && d_kept && t_kept;
+}
+
 /* Calls a list service on lists and answer lists of their lengths. */
 void call_lists(list_service *service, const struct lists *lists, struct called *called)
 {
-    uint8_t *c = exact(lists->c, lists->c_len), *d = exact(lists->d, lists->d_len);
-    uint8_t *t = exact(lists->t, lists->t_len);
-    bool c_kept, d_kept, t_kept;
+    struct copies of = copy_lists(lists);
 
     fill(called);
-    called->answer = service(c, lists->c_len, d, lists->d_len, t, lists->t_len, called->first + MARGIN,
+    called->answer = service(of.c, lists->c_len, of.d, lists->d_len, of.t, lists->t_len, called->first + MARGIN,
                              lists->responses_len, called->second + MARGIN, lists->allowances_len);
     if (called->answer.number == 0)
         called->first_written = called->second_written = lists->c_len;
-    c_kept = free_kept(c, lists->c, lists->c_len);
-    d_kept = free_kept(d, lists->d, lists->d_len);
-    t_kept = free_kept(t, lists->t, lists->t_len);
-    called->read_kept = c_kept && d_kept && t_kept;
+    called->read_kept = free_lists(of, lists);
+}
+
+/* Calls a why service on lists and the row number asked for. */
+void call_why(why_service *service, const struct lists *lists, struct called *called)
+{
+    struct copies of = copy_lists(lists);
+    struct second_why why = service(of.c, lists->c_len, of.d, lists->d_len, of.t, lists->t_len, lists->row);
+
+    fill(called);
+    called->answer = why.answer;
+    called->limited_by = why.limited_by;
+    called->point = why.point;
+    called->read_kept = free_lists(of, lists);
 }
 
 /* Whether two answers are the same. */
@@ -98,7 +129,8 @@ bool same_answer(struct second_answer one, struct second_answer other)
 /* Whether two calls left the same, every byte counted. */
 bool same_called(const struct called *one, const struct called *other)
 {
-    return same_answer(one->answer, other->answer) && one->first_written == other->first_written &&
+    return same_answer(one->answer, other->answer) && one->limited_by == other->limited_by &&
+           one->point == other->point && one->first_written == other->first_written &&
            memcmp(one->first, other->first, OUTPUT_ROOM) == 0 &&
            memcmp(one->second, other->second, OUTPUT_ROOM) == 0 && one->read_kept == other->read_kept;
 }
