@@ -4,10 +4,15 @@
 #include <stdlib.h>
 #include <string.h>
 
-/* The byte that stands at a place of an output before a call. */
-static uint8_t pattern(size_t place)
+/* What stands in an output before a call. */
+static const uint8_t *pattern(void)
 {
-    return (uint8_t)(0xA5 + 37 * place);
+    static uint8_t bytes[OUTPUT_ROOM];
+
+    if (bytes[0] == 0)
+        for (size_t place = 0; place < OUTPUT_ROOM; place++)
+            bytes[place] = (uint8_t)(0xA5 + 37 * place);
+    return bytes;
 }
 
 /* Fills both outputs with the pattern; nothing is answered or written. */
@@ -16,17 +21,17 @@ static void fill(struct called *called)
     called->answer = (struct second_answer){ 0, 0 };
     called->limited_by = called->point = 0;
     called->first_written = called->second_written = 0;
-    for (size_t place = 0; place < OUTPUT_ROOM; place++)
-        called->first[place] = called->second[place] = pattern(place);
+    memcpy(called->first, pattern(), OUTPUT_ROOM);
+    memcpy(called->second, pattern(), OUTPUT_ROOM);
 }
 
 /* Whether an output has the pattern from a place of what is lent to its end, and in the margin before. */
 static bool kept_from(const uint8_t *output, size_t lent_from)
 {
-    for (size_t place = 0; place < OUTPUT_ROOM; place++)
-        if ((place < MARGIN || place >= MARGIN + lent_from) && output[place] != pattern(place))
-            return false;
-    return true;
+    size_t from = lent_from < OUTPUT_ROOM - MARGIN ? MARGIN + lent_from : OUTPUT_ROOM;
+
+    return memcmp(output, pattern(), MARGIN) == 0 &&
+           memcmp(output + from, pattern() + from, OUTPUT_ROOM - from) == 0;
 }
 
 /* A copy of bytes in memory of exactly their length, so that a sanitizer sees a read beyond it. */
@@ -118,6 +123,21 @@ void call_why(why_service *service, const struct lists *lists, struct called *ca
     called->limited_by = why.limited_by;
     called->point = why.point;
     called->read_kept = free_lists(of, lists);
+}
+
+/* The row that limits the row asked for: the one that a set service says is late with one tick more than the allowance,
+ * or the row itself where its C would be above its D. */
+uint32_t limiting_row(list_service *set, const struct lists *lists, const struct called *accepted)
+{
+    size_t at = 4 * (size_t)(lists->row - 1);
+    struct lists raised = *lists;
+    struct called called;
+
+    put_number(raised.c + at, get_number(lists->c + at) + get_number(accepted->second + MARGIN + at) + 1);
+    if (get_number(raised.c + at) > get_number(lists->d + at))
+        return lists->row;
+    call_lists(set, &raised, &called);
+    return called.answer.row;
 }
 
 /* Whether two answers are the same. */
