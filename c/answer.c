@@ -7,8 +7,9 @@
  *     listing TABLE LENGTH         the listing, into so many bytes
  *
  * Printed are number and row, or for the listing how many bytes were written, and then the lent bytes; these are a5 before
- * the call. The why service is lent none: its limiting row and point follow. A line that begins with # is printed as it is. No byte string has more than 1200 bytes. A line that has none
- * of these forms ends the run with status 2. */
+ * the call. The why service is lent none: printed last are its limiting row and its point. A line that begins with # is
+ * printed as it is. No byte string has more than 1200 bytes. A line that has none of these forms ends the run with
+ * status 2. */
 #include "programs.h"
 
 #include <stdio.h>

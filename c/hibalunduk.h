@@ -119,8 +119,8 @@ struct hibalunduk_why {
     uint32_t point;
 };
 
-/* The why service: which row stops a row, that is, why its allowance is not one tick more. Takes one core's rows as the set
- * service does, and the number of one of them in the lists, from 1. Writes nothing.
+/* The why service: which row stops a row, that is, why its allowance is not one tick more. Takes one core's rows as the
+ * set service does, and the number of one of them in the lists, from 1. Writes nothing.
  *
  * `limited_by` is the number in the lists of the limiting row: the first in rank that misses its deadline with the C of
  * `row` raised by its allowance and one tick. That is `row` itself, or a row ranked below it. `point` is the first

@@ -29,7 +29,8 @@ struct why_sheet {
     struct second_why why;
 };
 
-static const struct rows rounded_quotients = { 1, 2, { { 1, 3, 3 }, { 2, 5, 5 } } };
+static const struct rows rounded_half = { 1, 2, { { 1, 3, 3 }, { 2, 5, 5 } } };
+static const struct rows rounded_down = { 1, 2, { { 2, 4, 4 }, { 5, 11, 12 } } };
 
 static const struct why_sheet why_sheets[WHY_SHEETS] = {
     { &set_sheets[0].rows, 1, { { 0, 0 }, 4, 200 } }, /* the four */
@@ -40,8 +41,9 @@ static const struct why_sheet why_sheets[WHY_SHEETS] = {
     { &set_sheets[0].rows, 5, { { 10, 0 }, 0, 0 } },
     { &set_sheets[1].rows, 1, { { 0, 0 }, 1, 1 } }, /* 1/1/1 */
     { &set_sheets[2].rows, 1, { { 0, 0 }, 1, 1000000 } }, /* 1/1000000/1000000 */
-    { &rounded_quotients, 1, { { 0, 0 }, 2, 3 } }, /* 0 at 3, and 1/2 at 5 */
-    { &rounded_quotients, 2, { { 0, 0 }, 2, 5 } },
+    { &rounded_half, 1, { { 0, 0 }, 2, 3 } }, /* 0 at 3, and 1/2 at 5 */
+    { &rounded_half, 2, { { 0, 0 }, 2, 5 } },
+    { &rounded_down, 1, { { 0, 0 }, 2, 11 } }, /* -1/2 at 8, and 0 at 11 */
     { &set_sheets[4].rows, 1, { { 8, 2 }, 0, 0 } }, /* 5/10/10 and 6/14/14 */
     { &set_sheets[4].rows, 3, { { 10, 0 }, 0, 0 } },
 };

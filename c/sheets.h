@@ -4,7 +4,7 @@
 
 #include "calls.h"
 
-enum { SET_SHEETS = 7, WHY_SHEETS = 12, TABLE_SHEETS = 9, LISTING_ROOM = 1024 };
+enum { SET_SHEETS = 7, WHY_SHEETS = 13, TABLE_SHEETS = 9, LISTING_ROOM = 1024 };
 
 /* Whether a service answers a sheet as the paper does, with nothing else written; what the call left is given too. */
 bool set_sheet_holds(size_t sheet, list_service *service, struct called *called);
