@@ -3,11 +3,13 @@
  *
  *     table TABLE LENGTH           the table service, with a report of so many bytes
  *     rows C D T LENGTH LENGTH     the set service, then the point service, with response times and allowances of so many
+ *     why C D T ROW                the why service, for the row of that number
  *     listing TABLE LENGTH         the listing, into so many bytes
  *
  * Printed are number and row, or for the listing how many bytes were written, and then the lent bytes; these are a5 before
- * the call. A line that begins with # is printed as it is. No byte string has more than 1200 bytes. A line that has none
- * of these forms ends the run with status 2. */
+ * the call. The why service is lent none: printed last are its limiting row and its point. A line that begins with # is
+ * printed as it is. No byte string has more than 1200 bytes. A line that has none of these forms ends the run with
+ * status 2. */
 #include "programs.h"
 
 #include <stdio.h>
@@ -63,16 +65,22 @@ static void read_bytes(const struct line *line, size_t word, struct bytes *bytes
     }
 }
 
-/* Lends as many bytes as a word says. */
-static void lend(const struct line *line, size_t word, struct bytes *bytes)
+/* Reads a word in decimal digits, a number up to the greatest that it can be. */
+static uint32_t read_number(const struct line *line, size_t word, uint32_t greatest)
 {
     const char *text = line->word[word];
 
-    if (*text == '\0' || strspn(text, "0123456789") != strlen(text) || strlen(text) > 4)
-        fail(line, "not a length");
-    bytes->len = strtoul(text, NULL, 10);
-    if (bytes->len > BYTES_MAX)
-        fail(line, "a length above 1200");
+    if (*text == '\0' || strspn(text, "0123456789") != strlen(text) || strlen(text) > 10)
+        fail(line, "not a number");
+    if (strtoull(text, NULL, 10) > greatest)
+        fail(line, "too great a number");
+    return (uint32_t)strtoull(text, NULL, 10);
+}
+
+/* Lends as many bytes as a word says. */
+static void lend(const struct line *line, size_t word, struct bytes *bytes)
+{
+    bytes->len = read_number(line, word, BYTES_MAX);
     memset(bytes->of, LENT, sizeof bytes->of);
 }
 
@@ -105,14 +113,20 @@ static void answer_table(const struct line *line, bool listing)
     putchar('\n');
 }
 
+/* Reads three words in hex, from the second on. */
+static void read_lists(const struct line *line, struct bytes *c, struct bytes *d, struct bytes *t)
+{
+    read_bytes(line, 1, c);
+    read_bytes(line, 2, d);
+    read_bytes(line, 3, t);
+}
+
 /* A line with rows, for one of the list services. */
 static void answer_rows(const struct line *line, list_service *service)
 {
     struct bytes c, d, t, responses, allowances;
 
-    read_bytes(line, 1, &c);
-    read_bytes(line, 2, &d);
-    read_bytes(line, 3, &t);
+    read_lists(line, &c, &d, &t);
     lend(line, 4, &responses);
     lend(line, 5, &allowances);
     print_answer(service(c.of, c.len, d.of, d.len, t.of, t.len, responses.of, responses.len, allowances.of,
@@ -120,6 +134,18 @@ static void answer_rows(const struct line *line, list_service *service)
     print_bytes(&responses);
     print_bytes(&allowances);
     putchar('\n');
+}
+
+/* A line with rows and a row number, for the why service. */
+static void answer_why(const struct line *line)
+{
+    struct bytes c, d, t;
+    struct second_why why;
+
+    read_lists(line, &c, &d, &t);
+    why = program->why(c.of, c.len, d.of, d.len, t.of, t.len, read_number(line, 4, UINT32_MAX));
+    print_answer(why.answer);
+    printf(" %u %u\n", (unsigned)why.limited_by, (unsigned)why.point);
 }
 
 /* Reads a line and takes it apart; false at the end of the input. */
@@ -156,7 +182,9 @@ static void answer_line(const struct line *line)
     else if (line->words == 6 && strcmp(line->word[0], "rows") == 0) {
         answer_rows(line, program->set);
         answer_rows(line, program->point);
-    } else
+    } else if (line->words == 5 && strcmp(line->word[0], "why") == 0)
+        answer_why(line);
+    else
         fail(line, "not a line to answer");
 }
 

@@ -1,5 +1,6 @@
 /* What the product costs beside the second program: both on the same inputs in the same run, by processor time, best of
- * several runs, as second / product: above 1 the product is the faster one. Argument: how many random tables a line. */
+ * several runs, as second / product: above 1 the product is the faster one; and its why service beside three calls of its
+ * point service. Argument: how many random tables a line. */
 #include "programs.h"
 
 #include <math.h>
@@ -13,9 +14,9 @@ enum { REPORT_ROOM = 4 + 23 * ROWS_MAX, TABLES_MAX = 1000, BAR = 60 };
 /* Microseconds: a run has so many calls that it takes the first; after one that takes the second no other is made. */
 static const double SHORT_RUN = 2000, LONG_RUN = 200000;
 
-enum service { TABLE, SET, POINT };
+enum service { TABLE, SET, POINT, WHY };
 
-static const char *const service_names[] = { "table", "set", "point" };
+static const char *const service_names[] = { "table", "set", "point", "why" };
 
 /* The bytes of one input, as a table and as lists. */
 struct input {
@@ -29,6 +30,15 @@ struct cost {
     double product, second;
 };
 
+/* One of those whose calls are measured in turn: a program's service, how many calls make a run, and the microseconds of
+ * a call in its best run. */
+struct measured {
+    const struct program *program;
+    enum service service;
+    unsigned long calls;
+    double best;
+};
+
 /* ---- Calls ---- */
 
 static uint8_t report[REPORT_ROOM], responses[LIST_ROOM], allowances[LIST_ROOM];
@@ -40,50 +50,54 @@ static uint32_t call(const struct program *program, enum service service, const 
 
     if (service == TABLE)
         return program->table(input->table, input->table_len, report, sizeof report).number;
+    if (service == WHY)
+        return program->why(lists->c, lists->c_len, lists->d, lists->d_len, lists->t, lists->t_len, lists->row)
+            .answer.number;
     return (service == SET ? program->set : program->point)(
                lists->c, lists->c_len, lists->d, lists->d_len, lists->t, lists->t_len, responses,
                sizeof responses, allowances, sizeof allowances)
         .number;
 }
 
-/* Microseconds of so many calls together. */
-static double time_calls(const struct program *program, enum service service, const struct input *input,
-                         unsigned long calls)
+/* Microseconds of a run. */
+static double time_run(const struct measured *measured, const struct input *input)
 {
     clock_t start = clock();
 
-    for (unsigned long n = 0; n < calls; n++)
-        call(program, service, input);
+    for (unsigned long n = 0; n < measured->calls; n++)
+        call(measured->program, measured->service, input);
     return (double)(clock() - start) * 1000000 / CLOCKS_PER_SEC;
 }
 
-/* How many calls make a run. */
-static unsigned long calls_a_run(const struct program *program, enum service service, const struct input *input)
+/* Measures several on an input: the best of so many runs of each in turn, of one where a run takes long. */
+static void measure_in_turn(struct measured *measured, unsigned many, const struct input *input, int runs)
 {
-    unsigned long calls = 1;
+    double all = 0;
 
-    while (time_calls(program, service, input, calls) < SHORT_RUN)
-        calls *= 2;
-    return calls;
+    for (unsigned n = 0; n < many; n++) {
+        measured[n].best = 1e300;
+        measured[n].calls = 1;
+        while (time_run(&measured[n], input) < SHORT_RUN)
+            measured[n].calls *= 2;
+    }
+    for (int run = 0; run < runs && all <= LONG_RUN; run++) {
+        all = 0;
+        for (unsigned n = 0; n < many; n++) {
+            double time = time_run(&measured[n], input);
+
+            measured[n].best = fmin(measured[n].best, time / (double)measured[n].calls);
+            all += time;
+        }
+    }
 }
 
-/* What a call costs in both programs: the best of so many runs of each in turn, of one where a run takes long. */
+/* What a call costs in both programs. */
 static struct cost measure(enum service service, const struct input *input, int runs)
 {
-    unsigned long ours = calls_a_run(&product_program, service, input);
-    unsigned long theirs = calls_a_run(&second_program, service, input);
-    struct cost best = { 1e300, 1e300 };
+    struct measured both[] = { { &product_program, service, 0, 0 }, { &second_program, service, 0, 0 } };
 
-    for (int run = 0; run < runs; run++) {
-        double product = time_calls(&product_program, service, input, ours);
-        double second = time_calls(&second_program, service, input, theirs);
-
-        best.product = fmin(best.product, product / (double)ours);
-        best.second = fmin(best.second, second / (double)theirs);
-        if (product + second > LONG_RUN)
-            break;
-    }
-    return best;
+    measure_in_turn(both, 2, input, runs);
+    return (struct cost){ both[0].best, both[1].best };
 }
 
 /* ---- Inputs ---- */
@@ -153,14 +167,14 @@ static void uunifast_rows(struct rows *rows, unsigned cores, unsigned count, dou
 
 /* Draws rows by UUniFast until the service accepts them; their utilisation is 0.5 and this share of 0.4 more. */
 static void draw_accepted(enum service service, unsigned cores, unsigned count, bool deadline_is_period, double share,
-                          struct input *input)
+                          struct rows *rows)
 {
-    struct rows rows;
+    struct input input;
 
     do {
-        uunifast_rows(&rows, cores, count, 0.5 + 0.4 * share, deadline_is_period);
-        make_input(&rows, input);
-    } while (call(&product_program, service, input) != 0);
+        uunifast_rows(rows, cores, count, 0.5 + 0.4 * share, deadline_is_period);
+        make_input(rows, &input);
+    } while (call(&product_program, service, &input) != 0);
 }
 
 /* ---- The table ---- */
@@ -218,10 +232,12 @@ static struct cost random_inputs(enum service service, unsigned cores, unsigned 
     struct cost middle;
 
     for (unsigned n = 0; n < tables; n++) {
+        struct rows rows;
         struct input input;
         struct cost cost;
 
-        draw_accepted(service, cores, count, deadline_is_period, tables == 1 ? 0.5 : (double)n / (tables - 1), &input);
+        draw_accepted(service, cores, count, deadline_is_period, tables == 1 ? 0.5 : (double)n / (tables - 1), &rows);
+        make_input(&rows, &input);
         cost = measure(service, &input, 3);
         product[n] = cost.product;
         second[n] = cost.second;
@@ -245,27 +261,29 @@ static void random_line(enum service service, unsigned cores, bool deadline_is_p
 }
 
 /* The four rows of document 01. */
+static const char four[] = "10/60/70 15/85/100 30/190/210 45/260/320";
+
+/* The four rows, as a set and as a table. */
 static void print_the_four(void)
 {
-    static const char four[] = "10/60/70 15/85/100 30/190/210 45/260/320";
-
     given_input(SET, four, 1, "the four rows of document 01");
     given_input(POINT, four, 1, "the four rows of document 01");
     given_input(TABLE, four, 2, "the four rows of document 01 on 2 cores");
 }
 
-/* Hostile tables, made for long climbs or for huge walks. */
+/* Hostile rows, made for long climbs or for huge walks. */
+static const char five[] = "1/2/2 1/4/4 1/5/5 1/21/21 1/427/427 19*1/1000000/1000000";
+static const char eleven[] = "1/2/2 1/3/3 1/8/8 1/25/25 1/608/608 3/999986/999986 1/999987/999987 1/999990/999990 "
+                             "1/999994/999994 1/999998/999998 1/999999/999999 13*1/1000000/1000000";
+static const char seven[] = "7*1/1/1 17*1/1000000/1000000";
+static const char walks[] = "1/4/4 1/4/7 1/8/11 1/10/19 1/37/37 1/67/71 1/138/138 1/168/235 4/421/421 2/526/1003 "
+                            "1/1603/1603 1/2678/2678 1/3706/3994 933/7987/7987 19/15973/15973 1/31935/31935 "
+                            "45/63859/63859 1/127585/127585 1/254939/254939 1/507611/507611 1/999998/999998 "
+                            "3*1/1000000/1000000";
+
+/* The hostile tables and lists. */
 static void print_hostile(void)
 {
-    static const char five[] = "1/2/2 1/4/4 1/5/5 1/21/21 1/427/427 19*1/1000000/1000000";
-    static const char eleven[] = "1/2/2 1/3/3 1/8/8 1/25/25 1/608/608 3/999986/999986 1/999987/999987 1/999990/999990 "
-                                 "1/999994/999994 1/999998/999998 1/999999/999999 13*1/1000000/1000000";
-    static const char seven[] = "7*1/1/1 17*1/1000000/1000000";
-    static const char walks[] = "1/4/4 1/4/7 1/8/11 1/10/19 1/37/37 1/67/71 1/138/138 1/168/235 4/421/421 2/526/1003 "
-                                "1/1603/1603 1/2678/2678 1/3706/3994 933/7987/7987 19/15973/15973 1/31935/31935 "
-                                "45/63859/63859 1/127585/127585 1/254939/254939 1/507611/507611 1/999998/999998 "
-                                "3*1/1000000/1000000";
-
     given_input(SET, five, 1, "long climbs: five short rows");
     given_input(POINT, five, 1, "long climbs: five short rows");
     given_input(TABLE, five, 1, "long climbs: five short rows, 1 core");
@@ -278,6 +296,75 @@ static void print_hostile(void)
     given_input(SET, walks, 1, "huge walks");
     given_input(POINT, walks, 1, "huge walks");
     given_input(TABLE, walks, 1, "huge walks, 1 core");
+}
+
+/* ---- The why service ---- */
+
+/* The row number of the first row in rank, or of the last. */
+static uint32_t ranked_row(const struct rows *rows, bool last)
+{
+    uint32_t found = 1;
+
+    for (uint32_t row = 2; row <= rows->count; row++)
+        if (last ? rows->row[row - 1].d >= rows->row[found - 1].d : rows->row[row - 1].d < rows->row[found - 1].d)
+            found = row;
+    return found;
+}
+
+/* Measures and prints the why service on rows that are accepted, for the first row in rank or the last. */
+static void why_line(const struct rows *rows, bool last, const char *name)
+{
+    struct measured three[] = { { &product_program, WHY, 0, 0 },
+                                { &second_program, WHY, 0, 0 },
+                                { &product_program, POINT, 0, 0 } };
+    struct input input;
+
+    make_input(rows, &input);
+    input.lists.row = ranked_row(rows, last);
+    measure_in_turn(three, 3, &input, 7);
+    printf("%-6s", service_names[WHY]);
+    print_number(three[0].best);
+    print_number(three[1].best);
+    print_number(three[1].best / three[0].best);
+    print_number(3 * three[2].best);
+    print_number(3 * three[2].best / three[0].best);
+    printf("  %s, %s in rank\n", name, last ? "last" : "first");
+    fflush(stdout);
+}
+
+/* Measures and prints the why service on rows from a text. */
+static void why_given(const char *text, const char *name)
+{
+    struct rows rows = { .cores = 1 };
+
+    read_rows(text, &rows);
+    why_line(&rows, false, name);
+    why_line(&rows, true, name);
+}
+
+/* Measures and prints the why service on 24 rows by UUniFast that are accepted. */
+static void why_random(bool deadline_is_period, double share, const char *name)
+{
+    struct rows rows;
+
+    draw_accepted(SET, 1, ROWS_MAX, deadline_is_period, share, &rows);
+    why_line(&rows, false, name);
+    why_line(&rows, true, name);
+}
+
+/* Prints the why service beside the second program's, and beside three calls of the point service on the same rows. */
+static void print_whys(void)
+{
+    printf("\nThe why service, microseconds a call; and three calls of the product's point service on the same rows, "
+           "points / why: above 1 why is the faster.\n\n");
+    printf("%-6s%12s%12s%12s%12s%12s  %s\n", "", "product", "second", "ratio", "3 points", "points/why", "input");
+    why_given(four, "the four rows of document 01");
+    why_random(false, 0, "24 rows by UUniFast, D <= T, utilisation 0.5");
+    why_random(false, 1, "24 rows by UUniFast, D <= T, utilisation 0.9");
+    why_random(true, 1, "24 rows by UUniFast, D = T, utilisation 0.9");
+    why_given(five, "long climbs: five short rows");
+    why_given(eleven, "long climbs: eleven rows");
+    why_given(walks, "huge walks");
 }
 
 /* ---- The picture ---- */
@@ -314,7 +401,7 @@ static void print_picture(unsigned tables)
     }
 }
 
-/* Prints the table and the picture. */
+/* Prints the table, the picture and the lines of the why service. */
 int main(int argc, char **argv)
 {
     unsigned tables = argc > 1 ? (unsigned)strtoul(argv[1], NULL, 10) : 50;
@@ -335,5 +422,6 @@ int main(int argc, char **argv)
     random_line(POINT, 1, true, tables < 3 ? tables : 3);
     print_hostile();
     print_picture(tables);
+    print_whys();
     return 0;
 }

@@ -1,4 +1,4 @@
-/* A third opinion for small numbers: the table and set services by trying every number in turn. */
+/* A third opinion for small numbers: the table, set and why services by trying every number in turn. */
 #ifndef BRUTE_H
 #define BRUTE_H
 
@@ -13,5 +13,9 @@ struct second_answer brute_set(const uint8_t *c, size_t c_len, const uint8_t *d,
                                const uint8_t *t, size_t t_len,
                                uint8_t *responses, size_t responses_len,
                                uint8_t *allowances, size_t allowances_len);
+
+/* The why service, with second_why's form. */
+struct second_why brute_why(const uint8_t *c, size_t c_len, const uint8_t *d, size_t d_len,
+                            const uint8_t *t, size_t t_len, uint32_t row);
 
 #endif

@@ -4,28 +4,34 @@
 #include <stdlib.h>
 #include <string.h>
 
-/* The byte that stands at a place of an output before a call. */
-static uint8_t pattern(size_t place)
+/* What stands in an output before a call. */
+static const uint8_t *pattern(void)
 {
-    return (uint8_t)(0xA5 + 37 * place);
+    static uint8_t bytes[OUTPUT_ROOM];
+
+    if (bytes[0] == 0)
+        for (size_t place = 0; place < OUTPUT_ROOM; place++)
+            bytes[place] = (uint8_t)(0xA5 + 37 * place);
+    return bytes;
 }
 
 /* Fills both outputs with the pattern; nothing is answered or written. */
 static void fill(struct called *called)
 {
     called->answer = (struct second_answer){ 0, 0 };
+    called->limited_by = called->point = 0;
     called->first_written = called->second_written = 0;
-    for (size_t place = 0; place < OUTPUT_ROOM; place++)
-        called->first[place] = called->second[place] = pattern(place);
+    memcpy(called->first, pattern(), OUTPUT_ROOM);
+    memcpy(called->second, pattern(), OUTPUT_ROOM);
 }
 
 /* Whether an output has the pattern from a place of what is lent to its end, and in the margin before. */
 static bool kept_from(const uint8_t *output, size_t lent_from)
 {
-    for (size_t place = 0; place < OUTPUT_ROOM; place++)
-        if ((place < MARGIN || place >= MARGIN + lent_from) && output[place] != pattern(place))
-            return false;
-    return true;
+    size_t from = lent_from < OUTPUT_ROOM - MARGIN ? MARGIN + lent_from : OUTPUT_ROOM;
+
+    return memcmp(output, pattern(), MARGIN) == 0 &&
+           memcmp(output + from, pattern() + from, OUTPUT_ROOM - from) == 0;
 }
 
 /* A copy of bytes in memory of exactly their length, so that a sanitizer sees a read beyond it. */
@@ -71,22 +77,67 @@ void call_listing(listing_service *service, const uint8_t *bytes, size_t len, si
     called->read_kept = free_kept(table, bytes, len);
 }
 
+/* Copies of three lists. */
+struct copies {
+    uint8_t *c, *d, *t;
+};
+
+/* Copies three lists. */
+static struct copies copy_lists(const struct lists *lists)
+{
+    return (struct copies){ exact(lists->c, lists->c_len), exact(lists->d, lists->d_len),
+                            exact(lists->t, lists->t_len) };
+}
+
+/* Frees the copies of three lists; false when one is not as it was. */
+static bool free_lists(struct copies copies, const struct lists *lists)
+{
+    bool c_kept = free_kept(copies.c, lists->c, lists->c_len);
+    bool d_kept = free_kept(copies.d, lists->d, lists->d_len);
+    bool t_kept = free_kept(copies.t, lists->t, lists->t_len);
+
+    return c_kept && d_kept && t_kept;
+}
+
 /* Calls a list service on lists and answer lists of their lengths. */
 void call_lists(list_service *service, const struct lists *lists, struct called *called)
 {
-    uint8_t *c = exact(lists->c, lists->c_len), *d = exact(lists->d, lists->d_len);
-    uint8_t *t = exact(lists->t, lists->t_len);
-    bool c_kept, d_kept, t_kept;
+    struct copies of = copy_lists(lists);
 
     fill(called);
-    called->answer = service(c, lists->c_len, d, lists->d_len, t, lists->t_len, called->first + MARGIN,
+    called->answer = service(of.c, lists->c_len, of.d, lists->d_len, of.t, lists->t_len, called->first + MARGIN,
                              lists->responses_len, called->second + MARGIN, lists->allowances_len);
     if (called->answer.number == 0)
         called->first_written = called->second_written = lists->c_len;
-    c_kept = free_kept(c, lists->c, lists->c_len);
-    d_kept = free_kept(d, lists->d, lists->d_len);
-    t_kept = free_kept(t, lists->t, lists->t_len);
-    called->read_kept = c_kept && d_kept && t_kept;
+    called->read_kept = free_lists(of, lists);
+}
+
+/* Calls a why service on lists and the row number asked for. */
+void call_why(why_service *service, const struct lists *lists, struct called *called)
+{
+    struct copies of = copy_lists(lists);
+    struct second_why why = service(of.c, lists->c_len, of.d, lists->d_len, of.t, lists->t_len, lists->row);
+
+    fill(called);
+    called->answer = why.answer;
+    called->limited_by = why.limited_by;
+    called->point = why.point;
+    called->read_kept = free_lists(of, lists);
+}
+
+/* The row that limits the row asked for: the one that a set service says is late with one tick more than the allowance,
+ * or the row itself where its C would be above its D. */
+uint32_t limiting_row(list_service *set, const struct lists *lists, const struct called *accepted)
+{
+    size_t at = 4 * (size_t)(lists->row - 1);
+    struct lists raised = *lists;
+    struct called called;
+
+    put_number(raised.c + at, get_number(lists->c + at) + get_number(accepted->second + MARGIN + at) + 1);
+    if (get_number(raised.c + at) > get_number(lists->d + at))
+        return lists->row;
+    call_lists(set, &raised, &called);
+    return called.answer.row;
 }
 
 /* Whether two answers are the same. */
@@ -98,7 +149,8 @@ bool same_answer(struct second_answer one, struct second_answer other)
 /* Whether two calls left the same, every byte counted. */
 bool same_called(const struct called *one, const struct called *other)
 {
-    return same_answer(one->answer, other->answer) && one->first_written == other->first_written &&
+    return same_answer(one->answer, other->answer) && one->limited_by == other->limited_by &&
+           one->point == other->point && one->first_written == other->first_written &&
            memcmp(one->first, other->first, OUTPUT_ROOM) == 0 &&
            memcmp(one->second, other->second, OUTPUT_ROOM) == 0 && one->read_kept == other->read_kept;
 }

@@ -12,12 +12,15 @@ typedef struct second_answer table_service(const uint8_t *, size_t, uint8_t *, s
 typedef struct second_answer list_service(const uint8_t *, size_t, const uint8_t *, size_t,
                                           const uint8_t *, size_t, uint8_t *, size_t,
                                           uint8_t *, size_t);
+typedef struct second_why why_service(const uint8_t *, size_t, const uint8_t *, size_t,
+                                      const uint8_t *, size_t, uint32_t);
 typedef size_t listing_service(const uint8_t *, size_t, uint8_t *, size_t);
 
-/* What a call leaves: its answer; a report, a listing or response times; allowances; how many bytes of these it has to
- * write, or says that it wrote; and whether what it read is as it was. */
+/* What a call leaves: its answer; the limiting row and the point; a report, a listing or response times; allowances; how
+ * many bytes of these it has to write, or says that it wrote; and whether what it read is as it was. */
 struct called {
     struct second_answer answer;
+    uint32_t limited_by, point;
     uint8_t first[OUTPUT_ROOM], second[OUTPUT_ROOM];
     size_t first_written, second_written;
     bool read_kept;
@@ -28,6 +31,10 @@ void call_table(table_service *service, const uint8_t *bytes, size_t len, size_t
 void call_listing(listing_service *service, const uint8_t *bytes, size_t len, size_t listing_len,
                   struct called *called);
 void call_lists(list_service *service, const struct lists *lists, struct called *called);
+void call_why(why_service *service, const struct lists *lists, struct called *called);
+
+/* The row that limits the row asked for, by a set service and what it left of lists that it accepts. */
+uint32_t limiting_row(list_service *set, const struct lists *lists, const struct called *accepted);
 
 /* What a call left. */
 bool same_answer(struct second_answer one, struct second_answer other);

@@ -61,7 +61,7 @@ size_t table_bytes(const struct rows *rows, uint8_t *bytes)
     return at + 2;
 }
 
-/* The lists of these rows, with answer lists of the right length. */
+/* The lists of these rows, with answer lists of the right length, asked for row 0. */
 void list_bytes(const struct rows *rows, struct lists *lists)
 {
     memset(lists, 0, sizeof *lists);

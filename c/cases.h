@@ -19,10 +19,11 @@ struct rows {
     struct row row[ROWS_MAX + 1];
 };
 
-/* Three lists in bytes, and the lengths of all five. */
+/* Three lists in bytes, the lengths of all five, and the row number that the why service is asked for. */
 struct lists {
     uint8_t c[LIST_ROOM], d[LIST_ROOM], t[LIST_ROOM];
     size_t c_len, d_len, t_len, responses_len, allowances_len;
+    uint32_t row;
 };
 
 /* Random numbers. */

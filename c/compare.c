@@ -1,4 +1,4 @@
-/* Runs the product and the second program, two answers to document 01 that share no line, on the document's sheets and
+/* Runs the product and the second program, two answers to the documents that share no line, on the documents' sheets and
  * on random cases, and a third opinion on small numbers too. Compares the answer, the row and every byte lent, and
  * stops at the first that differ. Arguments: seed, number of cases. Status 0: none differ, and every number that a
  * service can give was given; 1: some do, or one was not; 2: an argument is no number. */
@@ -11,10 +11,11 @@
 #include <stdlib.h>
 #include <string.h>
 
-enum { NUMBERS = 9 }; /* of answers: accepted and refusals 1 to 8 */
+enum { NUMBERS = 11 }; /* of answers: accepted and refusals up to 10 */
 
-/* Above these, the second program's walk with its repeats and the third opinion take long. */
-enum { WALKED_ROWS = 16, SMALL_TICKS = 60, SMALL_WORK = 400 };
+/* Above these, the second program's walk with its repeats, the why services on every row and the third opinion take
+ * long. */
+enum { WALKED_ROWS = 16, ASKED_ROWS = 8, SMALL_TICKS = 60, SMALL_WORK = 400 };
 
 /* A kind of cases: how its rows are drawn, what is compared on them, and how often; then what came of it. */
 struct kind {
@@ -30,18 +31,20 @@ struct kind {
 
 /* A service: the numbers that it can give, and how often it gave them. A listing's number is that of its text. */
 struct service {
-    const char *name, *can_give;
+    const char *name;
+    unsigned can_give[NUMBERS], many;
     unsigned long given[NUMBERS];
 };
 
 static struct run run;
 static struct kind *current; /* the kind of the case at hand */
-static struct service table_numbers = { .name = "table service", .can_give = "01234567" };
-static struct service set_numbers = { .name = "set service", .can_give = "03478" };
-static struct service point_numbers = { .name = "point service", .can_give = "03478" };
-static struct service listing_numbers = { .name = "listing", .can_give = "0123456" };
+static struct service table_numbers = { "table service", { 0, 1, 2, 3, 4, 5, 6, 7 }, 8, { 0 } };
+static struct service set_numbers = { "set service", { 0, 3, 4, 7, 8 }, 5, { 0 } };
+static struct service point_numbers = { "point service", { 0, 3, 4, 7, 8 }, 5, { 0 } };
+static struct service why_numbers = { "why service", { 0, 3, 4, 8, 10 }, 5, { 0 } };
+static struct service listing_numbers = { "listing", { 0, 1, 2, 3, 4, 5, 6 }, 7, { 0 } };
 
-static const struct program third_program = { "the third opinion", brute_table, brute_set, brute_set, NULL };
+static const struct program third_program = { "the third opinion", brute_table, brute_set, brute_set, brute_why, NULL };
 
 /* ---- What differs ---- */
 
@@ -57,8 +60,9 @@ static void print_bytes(const char *name, const uint8_t *bytes, size_t len)
 /* Prints what a call left, with the margins. */
 static void print_called(const char *name, const struct called *called, size_t first_len, size_t second_len)
 {
-    printf("  %s: number %u row %u, %lu bytes to write, what it read %s\n", name, (unsigned)called->answer.number,
-           (unsigned)called->answer.row, (unsigned long)called->first_written, called->read_kept ? "kept" : "changed");
+    printf("  %s: number %u row %u, limited by %u at %u, %lu bytes to write, what it read %s\n", name,
+           (unsigned)called->answer.number, (unsigned)called->answer.row, (unsigned)called->limited_by,
+           (unsigned)called->point, (unsigned long)called->first_written, called->read_kept ? "kept" : "changed");
     print_bytes("report, listing or response times, with margins", called->first, MARGIN + first_len + MARGIN);
     print_bytes("allowances, with margins", called->second, MARGIN + second_len + MARGIN);
 }
@@ -99,9 +103,9 @@ static unsigned never_given(const struct service *service)
 {
     unsigned never = 0;
 
-    for (const char *number = service->can_give; *number != '\0'; number++)
-        if (service->given[*number - '0'] == 0) {
-            printf("never reached: %s, number %c\n", service->name, *number);
+    for (unsigned n = 0; n < service->many; n++)
+        if (service->given[service->can_give[n]] == 0) {
+            printf("never reached: %s, number %u\n", service->name, service->can_give[n]);
             never++;
         }
     return never;
@@ -289,8 +293,8 @@ static void against_lists(const char *what, const struct called *ours, const str
     print_bytes("C", lists->c, lists->c_len);
     print_bytes("D", lists->d, lists->d_len);
     print_bytes("T", lists->t, lists->t_len);
-    printf("  answer lists of %lu and %lu bytes\n", (unsigned long)lists->responses_len,
-           (unsigned long)lists->allowances_len);
+    printf("  answer lists of %lu and %lu bytes; row number %u\n", (unsigned long)lists->responses_len,
+           (unsigned long)lists->allowances_len, (unsigned)lists->row);
     print_called("the product", ours, lists->responses_len, lists->allowances_len);
     print_called("the other", theirs, lists->responses_len, lists->allowances_len);
     stop();
@@ -328,6 +332,77 @@ static void compare_lists(const struct lists *lists)
     count(set.answer.number);
 }
 
+/* How many rows rank above a row of lists. */
+static unsigned rows_above(const struct lists *lists, uint32_t row)
+{
+    uint32_t d = get_number(lists->d + 4 * (row - 1));
+    unsigned above = 0;
+
+    for (uint32_t other = 1; other <= lists->d_len / 4; other++) {
+        uint32_t of = get_number(lists->d + 4 * (other - 1));
+
+        above += of < d || (of == d && other < row);
+    }
+    return above;
+}
+
+/* Compares all programs on lists and the row number asked for. */
+static void compare_why(const struct lists *lists)
+{
+    struct called ours, theirs;
+
+    call_why(product_program.why, lists, &ours);
+    call_why(second_program.why, lists, &theirs);
+    against_lists("why, the second program", &ours, &theirs, lists);
+    if (small_lists(lists)) {
+        call_why(third_program.why, lists, &theirs);
+        against_lists("why, the third opinion", &ours, &theirs, lists);
+    }
+    why_numbers.given[ours.answer.number]++;
+}
+
+/* Compares the product's limiting row with the second program's set service; gives whether its walk takes too long. */
+static bool compare_limit(const struct lists *lists)
+{
+    struct called set, ours, theirs;
+
+    call_lists(second_program.set, lists, &set);
+    if (set.answer.number != 0)
+        return false;
+    call_why(product_program.why, lists, &ours);
+    theirs = ours;
+    theirs.answer = set.answer;
+    theirs.limited_by = limiting_row(second_program.set, lists, &set);
+    against_lists("why, the second program's set", &ours, &theirs, lists);
+    return rows_above(lists, theirs.limited_by) >= WALKED_ROWS;
+}
+
+/* A row number by turns, from 0 to one too many. */
+static uint32_t row_by_turns(const struct lists *lists)
+{
+    return (uint32_t)(current->compared % (lists->c_len / 4 + 2));
+}
+
+/* Compares all programs on lists and one row number; of many rows the limiting row alone where the walk takes long. */
+static void compare_one_why(struct lists *lists, uint32_t row)
+{
+    uint32_t rows = (uint32_t)(lists->c_len / 4);
+
+    lists->row = row;
+    if (rows <= WALKED_ROWS || row < 1 || row > rows || !compare_limit(lists))
+        compare_why(lists);
+}
+
+/* Compares all programs on lists and every row number up to one too many; of many rows, on one by turns. */
+static void compare_whys(struct lists *lists)
+{
+    if (lists->c_len / 4 > ASKED_ROWS)
+        compare_one_why(lists, row_by_turns(lists));
+    else
+        for (uint32_t row = 0; row <= lists->c_len / 4 + 1; row++)
+            compare_one_why(lists, row);
+}
+
 /* The lists of rows that were drawn for several cores: their C, where it is not above D, shared between these. */
 static void one_core_lists(const struct rows *rows, struct lists *lists)
 {
@@ -339,15 +414,32 @@ static void one_core_lists(const struct rows *rows, struct lists *lists)
     list_bytes(&shared, lists);
 }
 
+/* Compares all programs on lists and answer lists of lengths that are drawn. */
+static void compare_lent(struct lists *lists)
+{
+    lists->responses_len = lent_length(lists->c_len);
+    lists->allowances_len = lent_length(lists->c_len);
+    compare_lists(lists);
+}
+
 /* Lists as they were drawn. */
 static void lists_as_drawn(const struct rows *rows)
 {
     struct lists lists;
 
     one_core_lists(rows, &lists);
-    lists.responses_len = lent_length(lists.c_len);
-    lists.allowances_len = lent_length(lists.c_len);
-    compare_lists(&lists);
+    compare_whys(&lists);
+    compare_lent(&lists);
+}
+
+/* Lists as they were drawn, with one row number: their climbs take long. */
+static void lists_climbed(const struct rows *rows)
+{
+    struct lists lists;
+
+    one_core_lists(rows, &lists);
+    compare_one_why(&lists, row_by_turns(&lists));
+    compare_lent(&lists);
 }
 
 /* Lists as they were drawn, with both point services whatever the walk. */
@@ -358,6 +450,8 @@ static void lists_walked(const struct rows *rows)
     list_bytes(rows, &lists);
     compare_lists(&lists);
     compare_walks(&lists);
+    lists.row = row_by_turns(&lists);
+    compare_why(&lists);
 }
 
 /* Lists with one byte changed, or two. */
@@ -372,6 +466,7 @@ static void lists_damaged(const struct rows *rows)
         list[below((uint32_t)lists.c_len + 1)] = (uint8_t)(once_in(2) ? below(256) : below(3));
     } while (once_in(3));
     compare_lists(&lists);
+    compare_whys(&lists);
 }
 
 /* Every three lengths around that of the rows but the last, so that the longer ones hold rows too. */
@@ -383,8 +478,10 @@ static void lists_of_lengths(const struct rows *rows)
     one_core_lists(rows, &lists);
     for (lists.c_len = least; lists.c_len <= len + 4; lists.c_len++)
         for (lists.d_len = least; lists.d_len <= len + 4; lists.d_len++)
-            for (lists.t_len = least; lists.t_len <= len + 4; lists.t_len++)
+            for (lists.t_len = least; lists.t_len <= len + 4; lists.t_len++) {
                 compare_lists(&lists);
+                compare_one_why(&lists, row_by_turns(&lists));
+            }
 }
 
 /* Every two lengths of the answer lists around the one needed, and none. */
@@ -406,7 +503,7 @@ static void answer_lists_of_lengths(const struct rows *rows)
 
 /* ---- The run ---- */
 
-static struct kind sheets = { .name = "sheets of document 01" };
+static struct kind sheets = { .name = "sheets of the documents" };
 
 static struct kind kinds[] = {
     KIND("table: small numbers", small_rows, table_as_drawn, 1),
@@ -438,7 +535,7 @@ static struct kind kinds[] = {
     KIND("lists: damaged bytes", any_rows, lists_damaged, 1),
     KIND("lists: lengths of C, D and T", any_rows, lists_of_lengths, 20),
     KIND("lists: answer list lengths", small_rows, answer_lists_of_lengths, 8),
-    KIND("lists: long climbs", long_climbs, lists_as_drawn, 20),
+    KIND("lists: long climbs", long_climbs, lists_climbed, 20),
     KIND("lists: long walks", long_walks, lists_walked, 100),
 };
 
@@ -466,6 +563,10 @@ static void compare_sheets(void)
         current->drawn++;
         compare_sheet(set_sheet_holds(n, product_program.set, &called), &called);
         compare_sheet(set_sheet_holds(n, product_program.point, &called), &called);
+    }
+    for (size_t n = 0; n < WHY_SHEETS; n++) {
+        current->drawn++;
+        compare_sheet(why_sheet_holds(n, product_program.why, &called), &called);
     }
     for (size_t n = 0; n < TABLE_SHEETS; n++) {
         current->drawn++;
@@ -511,6 +612,15 @@ static void print_kinds(void)
     printf("%lu inputs compared\n", compared);
 }
 
+/* Prints how often the why service gave each number that it can give. */
+static void print_whys(void)
+{
+    printf("%s:", why_numbers.name);
+    for (unsigned n = 0; n < why_numbers.many; n++)
+        printf(" number %u %lu times%s", why_numbers.can_give[n], why_numbers.given[why_numbers.can_give[n]],
+               n + 1 < why_numbers.many ? "," : "\n");
+}
+
 /* Runs the sheets and the cases of a seed. */
 int main(int argc, char **argv)
 {
@@ -524,8 +634,9 @@ int main(int argc, char **argv)
     printf("%-32s%7s%9s%7s%9s%8s%8s%8s%8s%8s%8s%8s%8s\n", "kind", "cases", "inputs", "third", "accepted", "1", "2",
            "3", "4", "5", "6", "7", "8");
     print_kinds();
+    print_whys();
     never = never_given(&table_numbers) + never_given(&set_numbers) + never_given(&point_numbers) +
-            never_given(&listing_numbers);
+            never_given(&why_numbers) + never_given(&listing_numbers);
     printf("compare: %lu cases, 0 differ, %u numbers never reached\n", run.cases, never);
     return never == 0 ? 0 : 1;
 }

@@ -1,6 +1,7 @@
-/* A front end over the three services and the listing, and the example of how to call them: certifies the table in a
- * file, prints its listing, then gives each core's rows to the set service and the point service and says whether they
- * agree with the report.
+/* A front end over the services and the listing, and the example of how to call them: certifies the table in a file,
+ * prints its listing, then gives each core's rows to the set service and the point service and says whether they agree
+ * with the report. After the word `why` it says of each row instead which row would be late with one tick more than its
+ * allowance, by the why service.
  * Status 0: certified; 1: refused; 2: no file to read; 3: a service does not agree. */
 #include "hibalunduk.h"
 
@@ -16,9 +17,10 @@ struct certificate {
     size_t table_len, rows;
 };
 
-/* One core's rows as lists, and what the report says of them. */
+/* One core's rows as lists, what the report says of them, and their numbers in the table. */
 struct core {
     size_t len; /* of each list, four bytes a row */
+    unsigned row[HIBALUNDUK_ROWS_MAX];
     uint8_t c[HIBALUNDUK_LIST_MAX], d[HIBALUNDUK_LIST_MAX], t[HIBALUNDUK_LIST_MAX];
     uint8_t responses[HIBALUNDUK_LIST_MAX], allowances[HIBALUNDUK_LIST_MAX];
 };
@@ -81,6 +83,7 @@ static void gather_core(const struct certificate *certificate, unsigned number, 
         memcpy(core->t + core->len, body + 8, 4);
         memcpy(core->responses + core->len, figures + 1, 4);
         memcpy(core->allowances + core->len, figures + 5, 4);
+        core->row[core->len / 4] = (unsigned)row + 1;
         core->len += 4;
     }
 }
@@ -117,14 +120,59 @@ static bool print_cores(const struct certificate *certificate)
     return all;
 }
 
+/* A number of four bytes, big-endian. */
+static unsigned number(const uint8_t *bytes)
+{
+    return (unsigned)bytes[0] << 24 | (unsigned)bytes[1] << 16 | (unsigned)bytes[2] << 8 | bytes[3];
+}
+
+/* The place of a row of the table on its core, from 1. */
+static uint32_t place_on_core(const struct core *core, unsigned row)
+{
+    uint32_t place = 1;
+
+    while (core->row[place - 1] != row)
+        place++;
+    return place;
+}
+
+/* Prints which row would be late with one tick more for a row; false when the why service refuses the row's core. */
+static bool print_why(const struct certificate *certificate, unsigned row)
+{
+    const uint8_t *figures = figures_body(certificate, row - 1);
+    struct core core;
+    struct hibalunduk_why why;
+
+    gather_core(certificate, figures[0], &core);
+    why = hibalunduk_why(core.c, core.len, core.d, core.len, core.t, core.len, place_on_core(&core, row));
+    if (why.number != 0) {
+        printf("row %u on core %u: why differs\n", row, figures[0]);
+        return false;
+    }
+    printf("row %u on core %u has an allowance of %u: with one tick more row %u would be late at %u\n", row, figures[0],
+           number(figures + 5), core.row[why.limited_by - 1], (unsigned)why.point);
+    return true;
+}
+
+/* Prints for each row which row would be late with one tick more; false when the service does not agree. */
+static bool print_whys(const struct certificate *certificate)
+{
+    bool all = true;
+
+    for (unsigned row = 1; row <= certificate->rows; row++)
+        all = print_why(certificate, row) && all;
+    return all;
+}
+
 /* Certifies the table of the file named, or of standard input. */
 int main(int argc, char **argv)
 {
+    bool why = argc > 1 && strcmp(argv[1], "why") == 0;
     struct certificate certificate;
     struct hibalunduk_answer answer;
 
-    if (argc > 2 || !read_table(argc == 2 ? argv[1] : "-", &certificate)) {
-        fprintf(stderr, "usage: front [TABLE], a file of table bytes; standard input without one\n");
+    if (argc > 2 + why || !read_table(argc == 2 + why ? argv[1 + why] : "-", &certificate)) {
+        fprintf(stderr, "usage: front [why] [TABLE], a file of table bytes; standard input without one\n");
         return 2;
     }
     answer = hibalunduk_table(certificate.table, certificate.table_len, certificate.report,
@@ -134,6 +182,8 @@ int main(int argc, char **argv)
         return 1;
     }
     certificate.rows = (certificate.table_len - 4) / ROW_RECORD;
+    if (why)
+        return print_whys(&certificate) ? 0 : 3;
     print_report(&certificate);
     print_listing(&certificate);
     return print_cores(&certificate) ? 0 : 3;

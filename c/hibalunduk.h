@@ -1,9 +1,9 @@
-/* Hibalunduk for programs in C: the three services of document 01 and the listing. The document decides where this page
- * is short.
+/* Hibalunduk for programs in C: the three services of document 01 and the listing, and the why service of request 1. The
+ * documents decide where this page is short.
  *
  * A table has rows, numbered from 1, each with an execution time C, a deadline D and a period T in whole ticks,
  * 1 <= C <= D <= T <= 1,000,000. The services say on which core a row goes, its response time, and its
- * allowance: how far it may run over before a row on its core is late.
+ * allowance: how far it may run over before a row on its core is late; and which row that is.
  *
  * What a caller has to keep:
  * - A pointer has at least as many bytes behind it as the length after it says. It is not null, not even where
@@ -56,6 +56,7 @@ enum {
  *   6    that row            no core takes a row in the placement; another placement may exist
  *   7    0                   the report or an answer list is shorter than the answer
  *   8    the highest-ranked  a row misses its deadline
+ *   10   0                   the row number asked for is that of no row
  */
 struct hibalunduk_answer {
     uint32_t number;
@@ -71,7 +72,7 @@ struct hibalunduk_answer {
  *
  * Refusals: 1 to 5 as the records are read from the front, the first fault decides. A kind byte is looked at before
  * its body, a 25th kind 2 is refused (3) before its body, a row's limits (4) as soon as its body is there; at kind 4
- * the order is cut short (1), no rows (3), count (5), bytes after (1). Then 7, then 6. Never 8.
+ * the order is cut short (1), no rows (3), count (5), bytes after (1). Then 7, then 6. Never 8 or 10.
  *
  * A table of more than HIBALUNDUK_TABLE_MAX bytes is always refused, and its first HIBALUNDUK_TABLE_MAX + 1 bytes get
  * the same answer, so no longer buffer is needed to read one.
@@ -88,7 +89,7 @@ struct hibalunduk_answer hibalunduk_table(const uint8_t *table, size_t table_len
  * For n rows it writes 4 n bytes at the front of each answer list; these may be longer, and of any length.
  *
  * Refusals, in this order: 3 when c_len, d_len and t_len are not one and the same multiple of four from 4 to
- * HIBALUNDUK_LIST_MAX; 4; 7 when an answer list is shorter than c_len; 8. Never 1, 2, 5 or 6.
+ * HIBALUNDUK_LIST_MAX; 4; 7 when an answer list is shorter than c_len; 8. Never 1, 2, 5, 6 or 10.
  *
  * Time: microseconds for a few rows, below a millisecond for 24. The slowest lists found, short rows that leave next to
  * nothing of the core and slow rows below them, take 0.8 seconds.
@@ -109,6 +110,32 @@ struct hibalunduk_answer hibalunduk_point(const uint8_t *c, size_t c_len,
                                           const uint8_t *t, size_t t_len,
                                           uint8_t *responses, size_t responses_len,
                                           uint8_t *allowances, size_t allowances_len);
+
+/* An answer of the why service: number and row as above; where accepted the limiting row and the point, else 0 and 0. */
+struct hibalunduk_why {
+    uint32_t number;
+    uint32_t row;
+    uint32_t limited_by;
+    uint32_t point;
+};
+
+/* The why service: which row stops a row, that is, why its allowance is not one tick more. Takes one core's rows as the
+ * set service does, and the number of one of them in the lists, from 1. Writes nothing.
+ *
+ * `limited_by` is the number in the lists of the limiting row: the first in rank that misses its deadline with the C of
+ * `row` raised by its allowance and one tick. That is `row` itself, or a row ranked below it. `point` is the first
+ * scheduling point in the limiting row's walk at which its quotient for `row`, rounded towards minus infinity, is its
+ * greatest.
+ *
+ * Refusals, in this order: 3 and 4 as in the set service; 10 when `row` is 0 or above the number of rows; 8. Never 1, 2,
+ * 5, 6 or 7.
+ *
+ * Time: TIME
+ */
+struct hibalunduk_why hibalunduk_why(const uint8_t *c, size_t c_len,
+                                     const uint8_t *d, size_t d_len,
+                                     const uint8_t *t, size_t t_len,
+                                     uint32_t row);
 
 /* The listing of a table, in text: the line `row core response allowance`, a line with these four decimal numbers for
  * each row in table order, and the line `system` with the system's allowance, the smallest of all. Of a table that is

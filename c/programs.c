@@ -1,4 +1,4 @@
-/* The product and the second program, each as three services and the listing in the second program's form. */
+/* The product and the second program, each as four services and the listing in the second program's form. */
 #include "programs.h"
 
 #include "hibalunduk.h"
@@ -33,7 +33,16 @@ static struct second_answer product_point(const uint8_t *c, size_t c_len, const 
                                      allowances_len));
 }
 
+/* The product's why service. */
+static struct second_why product_why(const uint8_t *c, size_t c_len, const uint8_t *d, size_t d_len,
+                                     const uint8_t *t, size_t t_len, uint32_t row)
+{
+    struct hibalunduk_why why = hibalunduk_why(c, c_len, d, d_len, t, t_len, row);
+
+    return (struct second_why){ { why.number, why.row }, why.limited_by, why.point };
+}
+
 const struct program product_program = { "the product", product_table, product_set, product_point,
-                                         hibalunduk_listing };
+                                         product_why, hibalunduk_listing };
 const struct program second_program = { "the second program", second_table, second_set, second_point,
-                                        second_listing };
+                                        second_why, second_listing };

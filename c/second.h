@@ -1,4 +1,4 @@
-/* The second program's services: document 01 in plain C, written from the document alone. */
+/* The second program's services: document 01 and request 1 in plain C, written from their words alone. */
 #ifndef SECOND_H
 #define SECOND_H
 
@@ -26,6 +26,17 @@ struct second_answer second_point(const uint8_t *c, size_t c_len, const uint8_t 
                                   const uint8_t *t, size_t t_len,
                                   uint8_t *responses, size_t responses_len,
                                   uint8_t *allowances, size_t allowances_len);
+
+/* An answer of the why service; the limiting row and the point are 0 on a refusal. */
+struct second_why {
+    struct second_answer answer;
+    uint32_t limited_by;
+    uint32_t point;
+};
+
+/* The why service: the same lists and a row number from 1; the row that limits it, and the point. */
+struct second_why second_why(const uint8_t *c, size_t c_len, const uint8_t *d, size_t d_len,
+                             const uint8_t *t, size_t t_len, uint32_t row);
 
 /* The listing of a table: the number of bytes written, 0 and nothing written when out is too short. */
 size_t second_listing(const uint8_t *table, size_t table_len, uint8_t *out, size_t out_len);

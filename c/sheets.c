@@ -1,4 +1,4 @@
-/* Document 01's sheets as inputs with the answers on paper. */
+/* Document 01's sheets, and request 1's, as inputs with the answers on paper. */
 #include "sheets.h"
 
 #include <stdio.h>
@@ -20,6 +20,32 @@ static const struct set_sheet set_sheets[SET_SHEETS] = {
     { { 1, 2, { { 5, 10, 10 }, { 6, 14, 14 } } }, { 8, 2 }, { 0 }, { 0 } }, /* 8 */
     { { 1, 2, { { 5, 10, 10 }, { 10, 20, 20 } } }, { 0, 0 }, { 5, 20 }, { 0, 0 } }, /* 9 */
     { { 1, 2, { { 5, 10, 10 }, { 11, 20, 20 } } }, { 8, 2 }, { 0 }, { 0 } }, /* 10 */
+};
+
+/* A question for the why service: rows, the row number asked for, and the answer on paper. */
+struct why_sheet {
+    const struct rows *rows;
+    uint32_t row;
+    struct second_why why;
+};
+
+static const struct rows rounded_half = { 1, 2, { { 1, 3, 3 }, { 2, 5, 5 } } };
+static const struct rows rounded_down = { 1, 2, { { 2, 4, 4 }, { 5, 11, 12 } } };
+
+static const struct why_sheet why_sheets[WHY_SHEETS] = {
+    { &set_sheets[0].rows, 1, { { 0, 0 }, 4, 200 } }, /* the four */
+    { &set_sheets[0].rows, 2, { { 0, 0 }, 4, 200 } },
+    { &set_sheets[0].rows, 3, { { 0, 0 }, 4, 200 } },
+    { &set_sheets[0].rows, 4, { { 0, 0 }, 4, 260 } },
+    { &set_sheets[0].rows, 0, { { 10, 0 }, 0, 0 } },
+    { &set_sheets[0].rows, 5, { { 10, 0 }, 0, 0 } },
+    { &set_sheets[1].rows, 1, { { 0, 0 }, 1, 1 } }, /* 1/1/1 */
+    { &set_sheets[2].rows, 1, { { 0, 0 }, 1, 1000000 } }, /* 1/1000000/1000000 */
+    { &rounded_half, 1, { { 0, 0 }, 2, 3 } }, /* 0 at 3, and 1/2 at 5 */
+    { &rounded_half, 2, { { 0, 0 }, 2, 5 } },
+    { &rounded_down, 1, { { 0, 0 }, 2, 11 } }, /* -1/2 at 8, and 0 at 11 */
+    { &set_sheets[4].rows, 1, { { 8, 2 }, 0, 0 } }, /* 5/10/10 and 6/14/14 */
+    { &set_sheets[4].rows, 3, { { 10, 0 }, 0, 0 } },
 };
 
 /* A sheet as a table, or as no bytes at all: the answer and the listing on paper. */
@@ -61,6 +87,19 @@ bool set_sheet_holds(size_t sheet, list_service *service, struct called *called)
         holds = holds && get_number(called->first + MARGIN + 4 * n) == paper->responses[n] &&
                 get_number(called->second + MARGIN + 4 * n) == paper->allowances[n];
     return holds;
+}
+
+/* Whether a why service answers a question as the paper does. */
+bool why_sheet_holds(size_t sheet, why_service *service, struct called *called)
+{
+    const struct why_sheet *paper = &why_sheets[sheet];
+    struct lists lists;
+
+    list_bytes(paper->rows, &lists);
+    lists.row = paper->row;
+    call_why(service, &lists, called);
+    return same_answer(called->answer, paper->why.answer) && called->limited_by == paper->why.limited_by &&
+           called->point == paper->why.point && well_behaved(called);
 }
 
 /* Whether a table service answers a sheet as the paper does: the table's bytes, and its report read as a listing. */
