@@ -47,9 +47,6 @@ module _ (cs ds ts : List ℕ) (p : ℕ) where
     room = le-trans (raise-mono (getD cs j 0) (take j cs) (take j ts) (countedBy ts p j) a b (q .point) h) (q .room);
   }
 
-  least-has-room : (j a point : ℕ) → LeastWithRoom (loadWith cs ts p j a) (pointsAt ds ts j) point → PointWith cs ds ts p j a
-  least-has-room j a point l = record { point = point; among-points = l .among-points; room = l .room }
-
   module _ (rows : PointsByRank cs ds ts) (inside : p < length cs) where
     -- it begins with the row's distance to its deadline
     pub search-begins : (row point : ℕ) → Searched (getD ds p 0 - getD cs p 0) row point (length cs)
@@ -90,8 +87,12 @@ module _ (cs ds ts : List ℕ) (p : ℕ) where
           go (inl none) = let q = rows .have-points p (j - 1) in-set in absurd (reached .no-room (omega arith) (q .point) (q .among-points) (subst (λ (a : ℕ). loadWith cs ts p (j - 1) a (q .point) ≤ q .point) (sym none) (q .room)))
           go (inr some) = omega arith
 
-      at-beyond : LeastWithRoom (loadWith cs ts p (j - 1) (beyond - 1)) (pointsAt ds ts (j - 1)) next
-      at-beyond = reached .least-with-room (beyond - 1) (omega (arith, something-reached))
+      one-less : beyond ≡ suc (beyond - 1)
+      one-less = omega (arith, something-reached)
+
+      -- a point has room for one less than is reached
+      at-beyond : PointWith cs ds ts p (j - 1) (beyond - 1)
+      at-beyond = record { point = next; among-points = reached .among-points something-reached; room = reached .room (beyond - 1) one-less }
 
       -- the row before has room for no more than the smallest raise so far: it limits
       pub search-lowers : beyond ≤ suc most → Searched (beyond - 1) (j - 1) next (j - 1)
@@ -100,19 +101,16 @@ module _ (cs ds ts : List ℕ) (p : ℕ) where
         places = omega (arith, so-far .places);
         up-to = omega (arith, so-far .up-to, something-reached);
         each-has-room = λ q past h. ⊎-elim
-            (λ e. subst (λ (x : ℕ). PointWith cs ds ts p x (beyond - 1)) (sym e) (least-has-room (j - 1) (beyond - 1) next at-beyond))
+            (λ e. subst (λ (x : ℕ). PointWith cs ds ts p x (beyond - 1)) (sym e) at-beyond)
             (λ d. room-for-less q (beyond - 1) most (omega (arith, something-reached)) (so-far .each-has-room q (omega arith) h)) (equal-or-not q (j - 1));
         found = inl (record {
           from = omega arith;
           inside = in-set;
           above-have-more = λ q past h. absurd (omega arith);
-          no-more = λ q. reached .no-room up-to (q .point) (q .among-points) (subst (λ (a : ℕ). loadWith cs ts p (j - 1) a (q .point) ≤ q .point) (sym same) (q .room));
-          least-point = at-beyond;
+          no-more = λ q. reached .no-room up-to (q .point) (q .among-points) (subst (λ (a : ℕ). loadWith cs ts p (j - 1) a (q .point) ≤ q .point) (sym one-less) (q .room));
+          least-point = record { among-points = reached .among-points something-reached; room = reached .room (beyond - 1) one-less; least = reached .least up-to (beyond - 1) one-less };
         });
       }
-        where
-          same : beyond ≡ suc (beyond - 1)
-          same = omega (arith, something-reached)
 
       -- it has room for one more: what was found stays
       pub search-stays : suc most < beyond → Searched most row point (j - 1)
@@ -125,7 +123,7 @@ module _ (cs ds ts : List ℕ) (p : ℕ) where
       }
         where
           has-room : (a : ℕ) → a < beyond → PointWith cs ds ts p (j - 1) a
-          has-room a h = room-for-less (j - 1) a (beyond - 1) (omega arith) (least-has-room (j - 1) (beyond - 1) next at-beyond)
+          has-room a h = room-for-less (j - 1) a (beyond - 1) (omega arith) at-beyond
 
           still : Found j most row point → Found (j - 1) most row point
           still f = record {

@@ -1,6 +1,6 @@
 -- How far the points of a walk reach, while they come up in ascending order: what holds after those up to a last one, how it begins, goes on and ends.
 use mathlib.Core.Path.{_≡_, refl, sym, subst}
-use Prim.Native.Nat.{ℕ, suc, _≤_, _<_}
+use Prim.Native.Nat.{ℕ, suc, _-_, _≤_, _<_}
 use mathlib.Core.Bool.{Bool, true, false}
 use mathlib.Core.Logic.{_⊎_, inl, inr, ⊎-elim}
 use mathlib.Core.List.{List, List·Memᴰ}
@@ -10,7 +10,7 @@ use borrow.Author.Tests.{leb-true, leb-false}
 use lib.Dec.{leb}
 use lib.ListN.{length}
 use Rattle.theory.specs.Lists.{rowsOf}
-use Rattle.theory.proofs.Walk.{walk-within}
+use Rattle.theory.proofs.Walk.{walk-start, walk-within}
 use Rattle.reasons.specs.Reason.{walkFrom, IsNextPoint, IsBeyond, LeastWithRoom, Reached}
 
 -- after the points up to the last one
@@ -55,13 +55,28 @@ module _ (load : ℕ → ℕ → ℕ) (raise-mono : (a b t : ℕ) → a ≤ b �
         not-earlier a e q m room false above = next .least q m (leb-false q last above)
 
   module _ (ts : List ℕ) (limit : ℕ) {last beyond point : ℕ} (so-far : ReachedBy load (walkFrom ts limit) last beyond point) (most : ℕ) where
+    -- what is reached, where that is known to be all or beyond one more than is asked
+    as-reached : (beyond ≤ suc most → limit ≤ last) → Reached load (walkFrom ts limit) most beyond point
+    as-reached all = record {
+      among-points = λ h. so-far .least-with-room (beyond - 1) (omega arith) .among-points;
+      room = λ a e. so-far .least-with-room a e .room;
+      no-room = λ up-to q m. so-far .no-room q m (omega (arith, all up-to, walk-within (rowsOf ts ts ts) (length ts) limit q m));
+      least = λ up-to a e. so-far .least-with-room a e .least;
+    }
+
     -- after the last point
     pub reaching-ends : limit ≤ last → Reached load (walkFrom ts limit) most beyond point
-    reaching-ends all = record {
-      least-with-room = so-far .least-with-room;
-      no-room = λ up-to q m. so-far .no-room q m (omega (arith, walk-within (rowsOf ts ts ts) (length ts) limit q m));
-    }
+    reaching-ends all = as-reached (λ up-to. all)
 
     -- or where it is beyond one more than is asked
     pub reaching-left : suc most < beyond → Reached load (walkFrom ts limit) most beyond point
-    reaching-left further = record { least-with-room = so-far .least-with-room; no-room = λ up-to. absurd (omega arith) }
+    reaching-left further = as-reached (λ up-to. absurd (omega arith))
+
+-- the limit is a point, and where it has room for one more than is asked, no other is wanted
+pub reached-at-limit : (load : ℕ → ℕ → ℕ) (ts : List ℕ) (limit most after : ℕ) → IsBeyond load limit (suc most) after → suc most < after → Reached load (walkFrom ts limit) most after limit
+reached-at-limit load ts limit most after is further = record {
+  among-points = λ h. walk-start (rowsOf ts ts ts) (length ts) limit;
+  room = λ a e. is .room-for-less a e further;
+  no-room = λ up-to. absurd (omega arith);
+  least = λ up-to. absurd (omega arith);
+}

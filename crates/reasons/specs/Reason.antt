@@ -31,10 +31,13 @@ pub record LeastWithRoom (load : ℕ → ℕ) (points : List ℕ) (p : ℕ) : Ty
   pub room : load p ≤ p
   pub least : (q : ℕ) → List·Memᴰ q points → load q ≤ q → p ≤ q
 
--- how far points reach: `point` is the least with room for one less than `beyond`, and none has room for that, unless it is known to be beyond one more than `most`
+-- how far points reach: `point` has room for one less than `beyond`; and where that is not beyond one more than `most`, none has room for it, and `point` is the least
+-- with room for one less
 pub record Reached (load : ℕ → ℕ → ℕ) (points : List ℕ) (most beyond point : ℕ) : Type 0 where
-  pub least-with-room : (a : ℕ) → beyond ≡ suc a → LeastWithRoom (load a) points point
+  pub among-points : 1 ≤ beyond → List·Memᴰ point points
+  pub room : (a : ℕ) → beyond ≡ suc a → load a point ≤ point
   pub no-room : beyond ≤ suc most → (q : ℕ) → List·Memᴰ q points → load beyond q ≤ q → ⊥
+  pub least : beyond ≤ suc most → (a : ℕ) → beyond ≡ suc a → (q : ℕ) → List·Memᴰ q points → load a q ≤ q → point ≤ q
 
 -- the load of the row at place j with a more in the row at place p, and its points
 abbrev pub loadWith : List ℕ → List ℕ → ℕ → ℕ → ℕ → ℕ → ℕ

@@ -56,13 +56,20 @@ fn beyond_at(p: u32, own: u32, c: &[u32], t: &[u32], period: u32, beyond: u32) -
     beyond
 }
 
-// How far the points of a row's walk reach, as long as it is not known to be beyond one more than a given raise.
+// How far the points of a row's walk reach, as long as it is not known to be beyond one more than a given raise: mostly the last point tells that.
 fn reach_of(limit: u32, own: u32, c: &[u32], t: &[u32], period: u32, most: u32) -> Reach
     requires { ⌜ Small (now c) (now t) ⌝ }
     requires { ⌜ (1 ≤ limit) × (limit ≤ 1_000_000) × (own ≤ 1_000_000) ⌝ }
     requires { ⌜ (most < period) × (period ≤ 1_000_000) ⌝ }
     ensures { λ r. ⌜ Reached (raisedLoad own (now (c .entry)) (now (t .entry)) period) (walkFrom (now (t .entry)) limit) most (r .beyond) (r .point) ⌝ }
 {
+    let at_limit = beyond_at(limit, own, c, t, period, most + 1);
+    if most + 1 < at_limit {
+        return Reach {
+            beyond: at_limit,
+            point: limit,
+        };
+    }
     let mut beyond = 0;
     let mut point = 0;
     let mut last = 0;
