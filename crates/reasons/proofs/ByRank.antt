@@ -26,7 +26,7 @@ use Rattle.points.proofs.Walked.{points-of-rivals}
 use Rattle.raises.specs.Raise.{raisedLoad}
 use Rattle.raises.proofs.RaisedRow.{Counted}
 use Rattle.trials.specs.Trial.{countedBy}
-use Rattle.trials.proofs.ByRank.{byRank, length-by-rank, in-order, entry, limits, in-set, small-by-rank, counted, touched-from, in-rows-at}
+use Rattle.trials.proofs.ByRank.{RowsByRank, byRank, length-by-rank, in-order, entry, limits, in-set, small-by-rank, counted, touched-from, in-rows-at}
 use Rattle.reasons.specs.Reason.{walkFrom, loadWith, pointsAt, PointWith, PointsByRank, LimitsAt}
 
 module _ (cs ds ts : List ℕ) (shaped : Shaped cs ds ts) (within : AllWithin (rowsOf cs ds ts)) where
@@ -166,13 +166,7 @@ module _ (cs ds ts : List ℕ) (shaped : Shaped cs ds ts) (within : AllWithin (r
             );
           }
 
--- three lists are C, D and T of a set's rows, by rank
-pub record ByRank (cs ds ts executions deadlines periods : List ℕ) : Type 0 where
-  pub executions-by-rank : executions ≡ byRank ds cs
-  pub deadlines-by-rank : deadlines ≡ byRank ds ds
-  pub periods-by-rank : periods ≡ byRank ds ts
-
-module _ (cs ds ts : List ℕ) (shaped : Shaped cs ds ts) (within : AllWithin (rowsOf cs ds ts)) (all : AllMeet (rowsOf cs ds ts)) {executions deadlines periods : List ℕ} (by-rank : ByRank cs ds ts executions deadlines periods) where
+module _ (cs ds ts : List ℕ) (shaped : Shaped cs ds ts) (within : AllWithin (rowsOf cs ds ts)) (all : AllMeet (rowsOf cs ds ts)) {executions deadlines periods : List ℕ} (by-rank : RowsByRank cs ds ts executions deadlines periods) where
   -- each row by rank has a point
   pub points-by-rank : PointsByRank executions deadlines periods
   points-by-rank = rw (by-rank .executions-by-rank, by-rank .deadlines-by-rank, by-rank .periods-by-rank) (points-in-order cs ds ts shaped within all)

@@ -30,7 +30,7 @@ use Rattle.theory.proofs.Raise.{above-stays, load-of-touched}
 use Rattle.theory.proofs.Bound.{PointFor, quotient-has-room, bound-is, bound-unique, bound-covers}
 use Rattle.theory.proofs.Allowance.{allowance-unique, raised-steady, raised-point, point-for}
 use Rattle.theory.proofs.Trial.{meets-with-less, untouched-meets, touched-decide, trial-allowance}
-use Rattle.theory.proofs.Lists.{first-miss-unique, first-broken-unique}
+use Rattle.theory.proofs.Lists.{first-miss-unique, first-broken-unique, clash, late}
 
 -- a whole number that is at least a, and not at least one more, is a
 exactly : (a : ℕ) (z : ℤ) → pos a ≤ℤ z → (pos (suc a) ≤ℤ z → ⊥) → z ≡ pos a
@@ -200,12 +200,6 @@ module _ (cs ds ts : List ℕ) (row : ℕ) where
   refused-alike : {a b : Returned} → a ≡ b → SameExplanation a b 0 0 0 0
   refused-alike e = record { same-answer = e; same-row = refl; same-point = refl }
 
-  clash : {X : Type 0} (k : ℕ) → FirstBroken set k → AllWithin set → X
-  clash k broken within = absurd (broken .breaks (within k (broken .in-table)))
-
-  late : {X : Type 0} (k : ℕ) → FirstMiss set k → AllMeet set → X
-  late k miss all = absurd (miss .misses (all k (miss .in-set)))
-
   -- a row is in the set or it is not
   outside : {X : Type 0} (i : ℕ) → (row ≡ 0) ⊎ (length cs < row) → row ≡ suc i → i < length cs → X
   outside i (inl none) e h = absurd (omega arith)
@@ -226,21 +220,21 @@ module _ (cs ds ts : List ℕ) (row : ℕ) where
   explained-unique (rows-out-of-range n) (limited i′ k′ p′ s′ w′ e′ h′ all′ l′) = absurd (n s′)
   explained-unique (row-breaks-limits k s f) (rows-out-of-range n′) = absurd (n′ s)
   explained-unique (row-breaks-limits k s f) (row-breaks-limits k′ s′ f′) = refused-alike (ap (λ (x : ℕ). returned 4 (suc x)) (first-broken-unique set k k′ f f′))
-  explained-unique (row-breaks-limits k s f) (row-not-in-set s′ w′ o′) = clash k f w′
-  explained-unique (row-breaks-limits k s f) (row-misses i′ k′ s′ w′ e′ h′ m′) = clash k f w′
-  explained-unique (row-breaks-limits k s f) (limited i′ k′ p′ s′ w′ e′ h′ all′ l′) = clash k f w′
+  explained-unique (row-breaks-limits k s f) (row-not-in-set s′ w′ o′) = clash set k f w′
+  explained-unique (row-breaks-limits k s f) (row-misses i′ k′ s′ w′ e′ h′ m′) = clash set k f w′
+  explained-unique (row-breaks-limits k s f) (limited i′ k′ p′ s′ w′ e′ h′ all′ l′) = clash set k f w′
   explained-unique (row-not-in-set s w o) (rows-out-of-range n′) = absurd (n′ s)
-  explained-unique (row-not-in-set s w o) (row-breaks-limits k′ s′ f′) = clash k′ f′ w
+  explained-unique (row-not-in-set s w o) (row-breaks-limits k′ s′ f′) = clash set k′ f′ w
   explained-unique (row-not-in-set s w o) (row-not-in-set s′ w′ o′) = refused-alike refl
   explained-unique (row-not-in-set s w o) (row-misses i′ k′ s′ w′ e′ h′ m′) = outside i′ o e′ h′
   explained-unique (row-not-in-set s w o) (limited i′ k′ p′ s′ w′ e′ h′ all′ l′) = outside i′ o e′ h′
   explained-unique (row-misses i k s w e h m) (rows-out-of-range n′) = absurd (n′ s)
-  explained-unique (row-misses i k s w e h m) (row-breaks-limits k′ s′ f′) = clash k′ f′ w
+  explained-unique (row-misses i k s w e h m) (row-breaks-limits k′ s′ f′) = clash set k′ f′ w
   explained-unique (row-misses i k s w e h m) (row-not-in-set s′ w′ o′) = outside i o′ e h
   explained-unique (row-misses i k s w e h m) (row-misses i′ k′ s′ w′ e′ h′ m′) = refused-alike (ap (λ (x : ℕ). returned 8 (suc x)) (first-miss-unique set k k′ m m′))
-  explained-unique (row-misses i k s w e h m) (limited i′ k′ p′ s′ w′ e′ h′ all′ l′) = late k m all′
+  explained-unique (row-misses i k s w e h m) (limited i′ k′ p′ s′ w′ e′ h′ all′ l′) = late set k m all′
   explained-unique (limited i k p s w e h all l) (rows-out-of-range n′) = absurd (n′ s)
-  explained-unique (limited i k p s w e h all l) (row-breaks-limits k′ s′ f′) = clash k′ f′ w
+  explained-unique (limited i k p s w e h all l) (row-breaks-limits k′ s′ f′) = clash set k′ f′ w
   explained-unique (limited i k p s w e h all l) (row-not-in-set s′ w′ o′) = outside i o′ e h
-  explained-unique (limited i k p s w e h all l) (row-misses i′ k′ s′ w′ e′ h′ m′) = late k′ m′ all
+  explained-unique (limited i k p s w e h all l) (row-misses i′ k′ s′ w′ e′ h′ m′) = late set k′ m′ all
   explained-unique (limited i k p s w e h all l) (limited i′ k′ p′ s′ w′ e′ h′ all′ l′) = both-limited i i′ k k′ p p′ e e′ l l′

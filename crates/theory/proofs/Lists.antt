@@ -42,6 +42,14 @@ first-broken-unique rows h k p q = le-antisymm (not-later h k p q) (not-later k 
         go true e = leb-true h k e
         go false e = absurd (q .breaks (p .earlier-keep k (leb-false h k e)))
 
+-- not both: a row breaks the limits, and all keep them
+pub clash : {X : Type 0} (rows : List Row) (k : ℕ) → FirstBroken rows k → AllWithin rows → X
+clash rows k broken within = absurd (broken .breaks (within k (broken .in-table)))
+
+-- not both: a row misses, and all meet
+pub late : {X : Type 0} (rows : List Row) (k : ℕ) → FirstMiss rows k → AllMeet rows → X
+late rows k miss all = absurd (miss .misses (all k (miss .in-set)))
+
 -- numbers that are determined for each row make one list
 pub for-each-unique : (rows : List Row) (Right : ℕ → ℕ → Type 0)
     → ((k a b : ℕ) → k < length rows → Right k a → Right k b → a ≡ b)
@@ -73,12 +81,6 @@ module _ (Allowance : List Row → ℕ → ℕ → Type 0)
   abbrev rows : List Row
   rows = rowsOf cs ds ts
 
-  clash : {X : Type 0} (k : ℕ) → FirstBroken rows k → AllWithin rows → X
-  clash k broken within = absurd (broken .breaks (within k (broken .in-table)))
-
-  late : {X : Type 0} (k : ℕ) → FirstMiss rows k → AllMeet rows → X
-  late k miss all = absurd (miss .misses (all k (miss .in-set)))
-
   short : {X : Type 0} → (length responses < length cs) ⊎ (length allowances < length cs) → length cs ≤ length responses → length cs ≤ length allowances → X
   short (inl h) r a = absurd (omega arith)
   short (inr h) r a = absurd (omega arith)
@@ -104,23 +106,23 @@ module _ (Allowance : List Row → ℕ → ℕ → Type 0)
   answered-unique (rows-out-of-range n) (accepted Rs′ As′ s′ w′ r′ a′ all′ is-R′ is-A′) = absurd (n s′)
   answered-unique (row-breaks-limits k s f) (rows-out-of-range n′) = absurd (n′ s)
   answered-unique (row-breaks-limits k s f) (row-breaks-limits k′ s′ f′) = refused-alike (returned 4 (suc k)) (returned 4 (suc k′)) responses allowances (ap (λ (x : ℕ). returned 4 (suc x)) (first-broken-unique rows k k′ f f′))
-  answered-unique (row-breaks-limits k s f) (output-too-short s′ w′ o′) = clash k f w′
-  answered-unique (row-breaks-limits k s f) (row-misses k′ s′ w′ r′ a′ m′) = clash k f w′
-  answered-unique (row-breaks-limits k s f) (accepted Rs′ As′ s′ w′ r′ a′ all′ is-R′ is-A′) = clash k f w′
+  answered-unique (row-breaks-limits k s f) (output-too-short s′ w′ o′) = clash rows k f w′
+  answered-unique (row-breaks-limits k s f) (row-misses k′ s′ w′ r′ a′ m′) = clash rows k f w′
+  answered-unique (row-breaks-limits k s f) (accepted Rs′ As′ s′ w′ r′ a′ all′ is-R′ is-A′) = clash rows k f w′
   answered-unique (output-too-short s w o) (rows-out-of-range n′) = absurd (n′ s)
-  answered-unique (output-too-short s w o) (row-breaks-limits k′ s′ f′) = clash k′ f′ w
+  answered-unique (output-too-short s w o) (row-breaks-limits k′ s′ f′) = clash rows k′ f′ w
   answered-unique (output-too-short s w o) (output-too-short s′ w′ o′) = refused-alike (returned 7 0) (returned 7 0) responses allowances refl
   answered-unique (output-too-short s w o) (row-misses k′ s′ w′ r′ a′ m′) = short o r′ a′
   answered-unique (output-too-short s w o) (accepted Rs′ As′ s′ w′ r′ a′ all′ is-R′ is-A′) = short o r′ a′
   answered-unique (row-misses k s w r a m) (rows-out-of-range n′) = absurd (n′ s)
-  answered-unique (row-misses k s w r a m) (row-breaks-limits k′ s′ f′) = clash k′ f′ w
+  answered-unique (row-misses k s w r a m) (row-breaks-limits k′ s′ f′) = clash rows k′ f′ w
   answered-unique (row-misses k s w r a m) (output-too-short s′ w′ o′) = short o′ r a
   answered-unique (row-misses k s w r a m) (row-misses k′ s′ w′ r′ a′ m′) = refused-alike (returned 8 (suc k)) (returned 8 (suc k′)) responses allowances (ap (λ (x : ℕ). returned 8 (suc x)) (first-miss-unique rows k k′ m m′))
-  answered-unique (row-misses k s w r a m) (accepted Rs′ As′ s′ w′ r′ a′ all′ is-R′ is-A′) = late k m all′
+  answered-unique (row-misses k s w r a m) (accepted Rs′ As′ s′ w′ r′ a′ all′ is-R′ is-A′) = late rows k m all′
   answered-unique (accepted Rs As s w r a all is-R is-A) (rows-out-of-range n′) = absurd (n′ s)
-  answered-unique (accepted Rs As s w r a all is-R is-A) (row-breaks-limits k′ s′ f′) = clash k′ f′ w
+  answered-unique (accepted Rs As s w r a all is-R is-A) (row-breaks-limits k′ s′ f′) = clash rows k′ f′ w
   answered-unique (accepted Rs As s w r a all is-R is-A) (output-too-short s′ w′ o′) = short o′ r a
-  answered-unique (accepted Rs As s w r a all is-R is-A) (row-misses k′ s′ w′ r′ a′ m′) = late k′ m′ all
+  answered-unique (accepted Rs As s w r a all is-R is-A) (row-misses k′ s′ w′ r′ a′ m′) = late rows k′ m′ all
   answered-unique (accepted Rs As s w r a all is-R is-A) (accepted Rs′ As′ s′ w′ r′ a′ all′ is-R′ is-A′) = both-accepted Rs Rs′ As As′ is-R is-R′ is-A is-A′
 
 -- the set service's promise determines its result

@@ -46,12 +46,23 @@ pub gathered-by-rank : (ds order xs array : List ℕ) (n : ℕ) → n ≡ length
     → take n array ≡ byRank ds xs
 gathered-by-rank ds order xs array n all by-rank gathered = ap (λ (m : ℕ). take m array) all ∙ gathered-in-rank-order ds order xs array n all by-rank gathered
 
--- four lists are C, D, T and the response times of a set's rows, by rank
-pub record ListedByRank (cs ds ts responses executions deadlines periods answers : List ℕ) : Type 0 where
+-- three lists are C, D and T of a set's rows, by rank
+pub record RowsByRank (cs ds ts executions deadlines periods : List ℕ) : Type 0 where
   pub executions-by-rank : executions ≡ byRank ds cs
   pub deadlines-by-rank : deadlines ≡ byRank ds ds
   pub periods-by-rank : periods ≡ byRank ds ts
-  pub answers-by-rank : answers ≡ byRank ds responses
+
+-- so are the fronts of arrays into which they are gathered
+pub rows-gathered : (cs ds ts order executions deadlines periods : List ℕ) → length ds ≡ length cs → take (length ds) order ≡ rankingBy ds
+    → take (length (take (length cs) order)) executions ≡ entriesAt cs (take (length cs) order)
+    → take (length (take (length cs) order)) deadlines ≡ entriesAt ds (take (length cs) order)
+    → take (length (take (length cs) order)) periods ≡ entriesAt ts (take (length cs) order)
+    → RowsByRank cs ds ts (take (length cs) executions) (take (length cs) deadlines) (take (length cs) periods)
+rows-gathered cs ds ts order executions deadlines periods as-many by-rank of-C of-D of-T = record {
+  executions-by-rank = gathered-by-rank ds order cs executions (length cs) (sym as-many) by-rank of-C;
+  deadlines-by-rank = gathered-by-rank ds order ds deadlines (length cs) (sym as-many) by-rank of-D;
+  periods-by-rank = gathered-by-rank ds order ts periods (length cs) (sym as-many) by-rank of-T;
+}
 
 -- a response time is the least time with room
 least-room : (rows : List Row) (k R : ℕ) → 1 ≤ rowAt rows k .C → IsResponse rows k R → LeastRoom (load rows k) R
@@ -110,8 +121,8 @@ module _ (cs ds ts : List ℕ) (shaped : Shaped cs ds ts) (within : AllWithin (r
             (least-room rows (at j) (getD responses (at j) 0) (omega (arith, limits j inside .runs, execution-of cs ds ts shaped (at j))) (of-row j inside .is-response))
 
     -- by rank they respond in time
-    pub in-time-by-rank : {executions deadlines periods answers : List ℕ} → ListedByRank cs ds ts responses executions deadlines periods answers → InTimeByRank executions deadlines periods answers
-    in-time-by-rank listed = rw (listed .executions-by-rank, listed .deadlines-by-rank, listed .periods-by-rank, listed .answers-by-rank) in-time-in-order
+    pub in-time-by-rank : {executions deadlines periods answers : List ℕ} → RowsByRank cs ds ts executions deadlines periods → answers ≡ byRank ds responses → InTimeByRank executions deadlines periods answers
+    in-time-by-rank listed answered = rw (listed .executions-by-rank, listed .deadlines-by-rank, listed .periods-by-rank, answered) in-time-in-order
 
   module _ (p : ℕ) (inside : p < length cs) where
     -- a row from place p on counts the row at place p
@@ -145,7 +156,7 @@ module _ (cs ds ts : List ℕ) (shaped : Shaped cs ds ts) (within : AllWithin (r
     in-rows-at j h = in-rows cs ds ts shaped (ranked-in-lists cs ds ts shaped j h)
 
     -- an allowance by rank is the row's allowance
-    pub allowance-of-rank : {responses executions deadlines periods answers : List ℕ} → ListedByRank cs ds ts responses executions deadlines periods answers
+    pub allowance-of-rank : {responses executions deadlines periods : List ℕ} → RowsByRank cs ds ts executions deadlines periods
         → ((k : ℕ) → k < length cs → RespondsInTime (rowsOf cs ds ts) responses k)
         → (a : ℕ)
         → AllowanceAt executions deadlines periods p a

@@ -11,8 +11,8 @@ use Rattle.theory.specs.Lists.{rowsOf}
 use Rattle.theory.specs.Explanation.{Limits}
 use Rattle.climbs.proofs.OrderByRank.{ranked-long, places-of-rows, row-among-places}
 use Rattle.climbs.proofs.InLists.{ranked, ranked-in-lists, order-ranked}
-use Rattle.trials.proofs.ByRank.{length-by-rank, gathered-by-rank}
-use Rattle.reasons.proofs.ByRank.{ByRank, points-by-rank, limits-of-rank}
+use Rattle.trials.proofs.ByRank.{RowsByRank, rows-gathered}
+use Rattle.reasons.proofs.ByRank.{points-by-rank, limits-of-rank}
 use Rattle.reasons.proofs.limit_of.Statement.{statement}
 use Rattle.reasons.proofs.limit_of.Tie as tie
 
@@ -38,21 +38,15 @@ gather-requires-2 c κs = let start = c .before .before .before .before .before 
 gather-requires-3 : tie.Need-gather-requires-3
 gather-requires-3 c κs = let start = c .before .before .before .before .before .before .before in places start (omega (arith, start .pre .0 .0 .as-many-periods))
 
--- the fronts of the three arrays have the numbers by rank
+-- the fronts of the three arrays have C, D and T by rank
 fronts : (c : tie.After-gather3)
     → let start = c .before .before .before .before .before .before .before .before in
     let n = length (start .args .c .now) in
-    ByRank (start .args .c .now) (start .args .d .now) (start .args .t .now) (take n (c .before .before .gather .result)) (take n (c .before .gather2 .result)) (take n (c .gather3 .result))
+    RowsByRank (start .args .c .now) (start .args .d .now) (start .args .t .now) (take n (c .before .before .gather .result)) (take n (c .before .gather2 .result)) (take n (c .gather3 .result))
 fronts c =
     let start = c .before .before .before .before .before .before .before .before in
-    let ds = start .args .d .now in
-    let order = start .args .order .now in
-    let all : length (start .args .c .now) ≡ length ds = sym (start .pre .0 .0 .as-many-deadlines) in
-    record {
-      executions-by-rank = gathered-by-rank ds order (start .args .c .now) (c .before .before .gather .result) _ all (start .pre .1 .0) (c .before .before .gather .ensures .0);
-      deadlines-by-rank = gathered-by-rank ds order ds (c .before .gather2 .result) _ all (start .pre .1 .0) (c .before .gather2 .ensures .0);
-      periods-by-rank = gathered-by-rank ds order (start .args .t .now) (c .gather3 .result) _ all (start .pre .1 .0) (c .gather3 .ensures .0);
-    }
+    rows-gathered (start .args .c .now) (start .args .d .now) (start .args .t .now) (start .args .order .now) (c .before .before .gather .result) (c .before .gather2 .result) (c .gather3 .result)
+    (start .pre .0 .0 .as-many-deadlines) (start .pre .1 .0) (c .before .before .gather .ensures .0) (c .before .gather2 .ensures .0) (c .gather3 .ensures .0)
 
 array-share-prefix-cs : tie.Need-array-share-prefix-cs
 array-share-prefix-cs c = search needs

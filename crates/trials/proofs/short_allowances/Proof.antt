@@ -11,7 +11,7 @@ use Rattle.theory.specs.Gather.{All}
 use Rattle.theory.proofs.Each.{T-false}
 use Rattle.climbs.proofs.OrderByRank.{ranked-long, places-of-rows}
 use Rattle.climbs.proofs.InLists.{ranked, order-ranked, order-in-lists}
-use Rattle.trials.proofs.ByRank.{ListedByRank, length-by-rank, gathered-by-rank, in-time-by-rank, allowance-of-rank}
+use Rattle.trials.proofs.ByRank.{byRank, RowsByRank, length-by-rank, gathered-by-rank, rows-gathered, in-time-by-rank, allowance-of-rank}
 use Rattle.trials.proofs.Filling.{Filling, filling-begins, filling-more, filling-ends}
 use Rattle.trials.proofs.short_allowances.Statement.{statement}
 use Rattle.trials.proofs.short_allowances.Tie as tie
@@ -51,23 +51,22 @@ gather-requires-4 c κs =
     let start = c .before .before .before .before .before .before .before .before .before in
     places-of-all start (omega (arith, start .pre .0 .0 .no-25th))
 
--- the fronts of the four arrays have the numbers by rank
+-- the fronts of three arrays have C, D and T by rank
 fronts : (c : tie.After-gather4 Inv-loop μ-loop)
     → let start = c .before .before .before .before .before .before .before .before .before .before in
     let n = length (start .args .c .now) in
-    ListedByRank (start .args .c .now) (start .args .d .now) (start .args .t .now) (start .args .response .now) (take n (c .before .before .before .before .gather .result)) (take n (c .before .before .before .gather2 .result)) (take n (c .before .before .gather3 .result)) (take n (c .gather4 .result))
+    RowsByRank (start .args .c .now) (start .args .d .now) (start .args .t .now) (take n (c .before .before .before .before .gather .result)) (take n (c .before .before .before .gather2 .result)) (take n (c .before .before .gather3 .result))
 fronts c =
     let start = c .before .before .before .before .before .before .before .before .before .before in
-    let ds = start .args .d .now in
-    let order = start .args .order .now in
-    let all : length (start .args .c .now) ≡ length ds = sym (start .pre .0 .0 .as-many-deadlines) in
-    let by-rank = start .pre .1 .0 in
-    record {
-      executions-by-rank = gathered-by-rank ds order (start .args .c .now) (c .before .before .before .before .gather .result) _ all by-rank (c .before .before .before .before .gather .ensures .0);
-      deadlines-by-rank = gathered-by-rank ds order ds (c .before .before .before .gather2 .result) _ all by-rank (c .before .before .before .gather2 .ensures .0);
-      periods-by-rank = gathered-by-rank ds order (start .args .t .now) (c .before .before .gather3 .result) _ all by-rank (c .before .before .gather3 .ensures .0);
-      answers-by-rank = gathered-by-rank ds order (start .args .response .now) (c .gather4 .result) _ all by-rank (c .gather4 .ensures .0);
-    }
+    rows-gathered (start .args .c .now) (start .args .d .now) (start .args .t .now) (start .args .order .now) (c .before .before .before .before .gather .result) (c .before .before .before .gather2 .result) (c .before .before .gather3 .result)
+    (start .pre .0 .0 .as-many-deadlines) (start .pre .1 .0) (c .before .before .before .before .gather .ensures .0) (c .before .before .before .gather2 .ensures .0) (c .before .before .gather3 .ensures .0)
+
+-- and that of the fourth the response times
+front-of-responses : (c : tie.After-gather4 Inv-loop μ-loop)
+    → let start = c .before .before .before .before .before .before .before .before .before .before in take (length (start .args .c .now)) (c .gather4 .result) ≡ byRank (start .args .d .now) (start .args .response .now)
+front-of-responses c =
+    let start = c .before .before .before .before .before .before .before .before .before .before in
+    gathered-by-rank (start .args .d .now) (start .args .order .now) (start .args .response .now) (c .gather4 .result) _ (sym (start .pre .0 .0 .as-many-deadlines)) (start .pre .1 .0) (c .gather4 .ensures .0)
 
 loop-holds : tie.Need-loop-holds Inv-loop μ-loop
 loop-holds c =
@@ -107,7 +106,7 @@ allowance-at-requires c κs =
     let start = c .before .before .before .before .before .before .before .before .before .before .before .before .before .before .before .before in
     let pre = start .pre in
     let gathered = fronts (c .before .before .before .before .before .before) in (
-      in-time-by-rank (start .args .c .now) (start .args .d .now) (start .args .t .now) (pre .0 .0) (pre .0 .1) (start .args .response .now) (pre .1 .1) gathered,
+      in-time-by-rank (start .args .c .now) (start .args .d .now) (start .args .t .now) (pre .0 .0) (pre .0 .1) (start .args .response .now) (pre .1 .1) gathered (front-of-responses (c .before .before .before .before .before .before)),
       omega (arith, ap length (gathered .executions-by-rank), length-by-rank (start .args .d .now) (start .args .c .now), pre .0 .0 .as-many-deadlines),
     )
 
