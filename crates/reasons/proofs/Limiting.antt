@@ -15,7 +15,7 @@ use Rattle.theory.proofs.Walk.{walk-within, walk-positive}
 use Rattle.raises.proofs.Raised.{raise-mono}
 use Rattle.trials.specs.Trial.{countedBy}
 use Rattle.trials.proofs.Search.{counts-itself-once, counts-by-period}
-use Rattle.reasons.specs.Reason.{LeastWithRoom, Reached, loadWith, pointsAt, PointWith, PointsByRank, LimitsAt}
+use Rattle.reasons.specs.Reason.{LeastWithRoom, Reached, loadWith, pointsAt, PointWith, PointsByRank, IsMost, LimitsAt}
 
 module _ (cs ds ts : List ℕ) (p : ℕ) where
   -- a row limits the one at place p among those from place j on
@@ -26,10 +26,10 @@ module _ (cs ds ts : List ℕ) (p : ℕ) where
     pub no-more : PointWith cs ds ts p row (suc most) → ⊥
     pub least-point : LeastWithRoom (loadWith cs ts p row most) (pointsAt ds ts row) point
 
-  -- none does yet, and nothing but the row's own distance to its deadline is known
+  -- none does yet: each has room for more than is in question
   pub record NotYet (j most : ℕ) : Type 0 where
-    pub before : p < j
-    pub own-distance : getD cs p 0 + most ≡ getD ds p 0
+    pub still-in-question : IsMost cs ds ts p most
+    pub have-more : (q : ℕ) → j ≤ q → q < length cs → PointWith cs ds ts p q (suc most)
 
   -- after the rows from place j on
   pub record Searched (most row point j : ℕ) : Type 0 where
@@ -48,14 +48,14 @@ module _ (cs ds ts : List ℕ) (p : ℕ) where
   }
 
   module _ (rows : PointsByRank cs ds ts) (inside : p < length cs) where
-    -- it begins with the row's distance to its deadline
-    pub search-begins : (row point : ℕ) → Searched (getD ds p 0 - getD cs p 0) row point (length cs)
-    search-begins row point = record {
+    -- it begins with the largest raise in question
+    pub search-begins : {most : ℕ} → IsMost cs ds ts p most → (row point : ℕ) → Searched most row point (length cs)
+    search-begins is-most row point = record {
       from = omega arith;
       places = omega arith;
-      up-to = omega (arith, rows .by-deadline p inside);
+      up-to = is-most .own-distance;
       each-has-room = λ q past h. absurd (omega arith);
-      found = inr (record { before = inside; own-distance = omega (arith, rows .by-deadline p inside) });
+      found = inr (record { still-in-question = is-most; have-more = λ q past h. absurd (omega arith) });
     }
 
     -- no raise in question reaches the period for which a row counts it
@@ -65,15 +65,6 @@ module _ (cs ds ts : List ℕ) (p : ℕ) where
         go : (j ≡ p) ⊎ (j ≡ p → ⊥) → (most < countedBy ts p j) × (countedBy ts p j ≤ 1_000_000)
         go (inl e) = rw (e, counts-itself-once ts p) (omega (arith, rows .runs p inside, rows .by-period p inside, rows .small .by-million p inside), omega arith)
         go (inr d) = rw (counts-by-period ts p j d) (omega (arith, rows .runs p inside, rows .by-period p inside), rows .small .by-million p inside)
-
-    -- the row itself has no room for more than its distance to its deadline
-    own-room : (a : ℕ) → PointWith cs ds ts p p a → getD cs p 0 + a ≤ getD ds p 0
-    own-room a q =
-        let by-deadline : q .point ≤ getD ds p 0 = walk-within (rowsOf (take p ts) (take p ts) (take p ts)) (length (take p ts)) (getD ds p 0) (q .point) (q .among-points) in
-        let from-one : 1 ≤ q .point = walk-positive (rowsOf (take p ts) (take p ts) (take p ts)) (length (take p ts)) (getD ds p 0) (q .point) (omega (arith, rows .runs p inside, rows .by-deadline p inside)) (q .among-points) in
-        let once : a * ceil (q .point) (countedBy ts p p) ≡ a =
-        ap (λ (m : ℕ). a * ceil (q .point) m) (counts-itself-once ts p) ∙ ap (λ (n : ℕ). a * n) (ceil-one (q .point) from-one (omega (arith, rows .by-period p inside, rows .small .by-million p inside))) ∙ mul-one a in
-        omega (arith, q .room, once, by-deadline)
 
     module _ {most row point j : ℕ} (so-far : Searched most row point j) (more : p < j) {beyond next : ℕ} (reached : Reached (loadWith cs ts p (j - 1)) (pointsAt ds ts (j - 1)) most beyond next) where
       in-set : j - 1 < length cs
@@ -136,13 +127,13 @@ module _ (cs ds ts : List ℕ) (p : ℕ) where
 
           not-yet : NotYet j most → NotYet (j - 1) most
           not-yet n = record {
-            before = ⊎-elim (λ e. absurd (omega (arith, n .own-distance, own-room (suc most) (subst (λ (x : ℕ). PointWith cs ds ts p x (suc most)) e (has-room (suc most) further))))) (λ d. omega arith) (equal-or-not (j - 1) p);
-            own-distance = n .own-distance;
+            still-in-question = n .still-in-question;
+            have-more = λ q past h. ⊎-elim (λ e. subst (λ (x : ℕ). PointWith cs ds ts p x (suc most)) (sym e) (has-room (suc most) further)) (λ d. n .have-more q (omega arith) h) (equal-or-not q (j - 1));
           }
 
   -- after the row itself the limiting row is found
   pub search-ends : {most row point j : ℕ} → Searched most row point j → j ≤ p → LimitsAt cs ds ts p row point
-  search-ends {most} {row} {point} {j} done past = ⊎-elim ends (λ n. absurd (omega (arith, n .before))) (done .found)
+  search-ends {most} {row} {point} {j} done past = ⊎-elim ends (λ n. absurd (n .still-in-question .no-larger (λ q h. n .have-more q (omega arith)))) (done .found)
     where
       ends : Found j most row point → LimitsAt cs ds ts p row point
       ends f = record {
