@@ -6,13 +6,16 @@ use mathlib.Core.List.{List, [], _∷_, reverse}
 use native.Mathlib.Omega.{arith}
 use lib.Dec.{T, T-not}
 use lib.ListN.{length}
+use lib.Signed.{leZ, _≤ℤ_}
 use Rattle.theory.specs.Returned.{Returned, returned}
 use Rattle.theory.specs.Row.{Row}
 use Rattle.theory.specs.Gather.{upFrom, keep, sum, every, First, insert, sort, best}
 use Rattle.theory.specs.Rank.{above, rivals, levels}
-use Rattle.theory.specs.Response.{ceil, demand, load, climb, outcome, onTime}
+use Rattle.theory.specs.Response.{ceil, demand, load, climb, outcome, onTime, Meets}
+use Rattle.theory.specs.Allowance.{raised}
 use Rattle.theory.specs.Points.{lastMultiple, walk, points, slack, floorDiv, times, quotient, bound, pointAllowance, allowance, IsBound}
 use Rattle.theory.specs.Explanation.{Explained}
+use Rattle.theory.proofs.Response.{outcome-right}
 use Rattle.theory.proofs.Explanation.{SameExplanation, explained-unique}
 use Rattle.sheets.specs.Sheets.{limited-by, executions, deadlines, periods, row, theFour}
 use Rattle.sheets.proofs.Test.{isSet, missesFirst, isFirst, greatestAt, limitedAt, passes}
@@ -31,10 +34,14 @@ pub record Question : Type 0 where
 abbrev pub asked : List Row → ℕ → Question
 asked rows number = record { c = executions rows; d = deadlines rows; t = periods rows; row = number }
 
--- no row ranks below row k
-pub record Lowest (rows : List Row) (k : ℕ) : Type 0 where
-  pub in-set : k < length rows
-  pub none-below : (h : ℕ) → h < length rows → T (above rows k h) → ⊥
+-- with one more than its allowance in row i, row k is the lowest in rank that misses
+pub record LowestMiss (rows : List Row) (i k : ℕ) : Type 0 where
+  pub misses : Meets (raised rows i (suc (allowance rows i))) k → ⊥
+  pub below-meet : (h : ℕ) → h < length rows → T (above rows k h) → Meets (raised rows i (suc (allowance rows i))) h
+
+-- no row has a smaller greatest slack than row k
+abbrev pub SmallestSlack : List Row → ℕ → Type 0
+SmallestSlack rows k = (h : ℕ) → h < length rows → bound rows k k ≤ℤ bound rows h h
 
 -- the last point in row k's walk with its greatest quotient for row i
 abbrev pub LastGreatest : List Row → ℕ → ℕ → ℕ → Type 0
@@ -56,13 +63,18 @@ known : T (passes (limited-by theFour 1 4 200))
 unfolding row theFour passes isSet missesFirst isFirst limitedAt upFrom keep sum every insert sort best rivals levels ceil demand load climb outcome onTime lastMultiple walk points slack floorDiv times quotient bound pointAllowance allowance
 known = (tt, tt, tt, tt)
 
--- of the two rows the second is the lowest
-lowest-of-two : Lowest noRoom 1
-unfolding row upFrom every
-lowest-of-two = record {
-  in-set = omega arith;
-  none-below = λ h in-set t. T-not (above noRoom 1 h) (each-place (λ x. not (above noRoom 1 x)) noRoom tt h in-set) t;
+-- with one tick more in row 1 both of those rows miss, and the second is the lowest
+second-misses : LowestMiss noRoom 0 1
+unfolding row upFrom keep sum every insert sort best rivals levels ceil demand load climb outcome lastMultiple walk points slack floorDiv times quotient bound pointAllowance allowance
+second-misses = record {
+  misses = outcome-right (raised noRoom 0 (suc (allowance noRoom 0))) 1 (omega arith);
+  below-meet = λ h in-set t. absurd (T-not (above noRoom 1 h) (each-place (λ x. not (above noRoom 1 x)) noRoom tt h in-set) t);
 }
+
+-- of the four the first row has the smallest slack
+first-of-the-four : SmallestSlack theFour 0
+unfolding row theFour upFrom keep sum every insert sort best rivals levels ceil demand load lastMultiple walk points slack floorDiv times quotient bound
+first-of-the-four h in-set = record { le = each-place (λ x. leZ (bound theFour 0 0) (bound theFour x x)) theFour tt h in-set }
 
 -- a version of the explanation that keeps its promise on every question
 module _ (answer : Question → Returned) (limiting point : Question → ℕ)
@@ -83,10 +95,16 @@ module _ (answer : Question → Returned) (limiting point : Question → ℕ)
       let same : _≡_ {A = ℕ} 1 4 = sym (itself (asked theFour 1) (right .same-answer)) ∙ right .same-row in
       absurd (omega (arith, same))
 
-  pub naming-the-lowest-row-is-shut-out : ((rows : List Row) (number k : ℕ) → Explains (asked rows number) → Lowest rows k → limiting (asked rows number) ≡ suc k) → ⊥
-  naming-the-lowest-row-is-shut-out lowest =
+  pub naming-the-lowest-row-that-misses-is-shut-out : ((rows : List Row) (i k : ℕ) → Explains (asked rows (suc i)) → LowestMiss rows i k → limiting (asked rows (suc i)) ≡ suc k) → ⊥
+  naming-the-lowest-row-that-misses-is-shut-out lowest =
       let right = on-limited noRoom 1 1 1 (known .2) in
-      let same : _≡_ {A = ℕ} 2 1 = sym (lowest noRoom 1 1 (right .same-answer) lowest-of-two) ∙ right .same-row in
+      let same : _≡_ {A = ℕ} 2 1 = sym (lowest noRoom 0 1 (right .same-answer) second-misses) ∙ right .same-row in
+      absurd (omega (arith, same))
+
+  pub naming-the-smallest-slack-is-shut-out : ((rows : List Row) (number k : ℕ) → Explains (asked rows number) → SmallestSlack rows k → limiting (asked rows number) ≡ suc k) → ⊥
+  naming-the-smallest-slack-is-shut-out smallest =
+      let right = on-limited theFour 1 4 200 (known .0) in
+      let same : _≡_ {A = ℕ} 1 4 = sym (smallest theFour 1 0 (right .same-answer) first-of-the-four) ∙ right .same-row in
       absurd (omega (arith, same))
 
   pub giving-the-last-point-is-shut-out :
