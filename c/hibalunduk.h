@@ -125,7 +125,7 @@ struct hibalunduk_why {
  * `limited_by` is the number in the lists of the limiting row: the first in rank that misses its deadline with the C of
  * `row` raised by its allowance and one tick. That is `row` itself, or a row ranked below it. `point` is the first
  * scheduling point in the limiting row's walk at which its quotient for `row`, rounded towards minus infinity, is its
- * greatest.
+ * greatest: with the whole allowance the limiting row still ends by that time.
  *
  * Refusals, in this order: 3 and 4 as in the set service; 10 when `row` is 0 or above the number of rows; 8. Never 1, 2,
  * 5, 6 or 7.

@@ -1,5 +1,5 @@
--- Document 02, request 1: exactly one row and one point answer the question, and they are the true reason. With the allowance more all rows meet; with one more than that
--- the named row misses and every row above it still meets; and the named row's bound, and its quotient at the named point, are the allowance itself.
+-- Document 02, request 1: exactly one row and one point answer the question, and they are the true reason. With the allowance more all rows meet, and the named row responds by
+-- the named point; with one more than that the named row misses and every row above it still meets; and its bound, and its quotient at the point, are the allowance itself.
 use mathlib.Core.Path.{_≡_, refl, sym, _∙_, ap, subst}
 use Prim.Native.Nat.{ℕ, suc, _+_, _*_, _≤_, _<_}
 use mathlib.Core.Bool.{Bool, true, false}
@@ -16,20 +16,21 @@ use Rattle.theory.specs.Returned.{Returned, returned}
 use Rattle.theory.specs.Gather.{First}
 use Rattle.theory.specs.Row.{Row, rowAt, AllWithin, FirstBroken}
 use Rattle.theory.specs.Rank.{above, levels}
-use Rattle.theory.specs.Response.{load, Meets, AllMeet, FirstMiss}
+use Rattle.theory.specs.Response.{load, IsResponse, Meets, AllMeet, FirstMiss}
 use Rattle.theory.specs.Allowance.{longer, raised, IsAllowance}
 use Rattle.theory.specs.Points.{points, times, quotient, slack, touches, bound, IsBound}
 use Rattle.theory.specs.Lists.{Shaped, rowsOf}
 use Rattle.theory.specs.Explanation.{Limits, Explained, rows-out-of-range, row-breaks-limits, row-not-in-set, row-misses, limited}
 use Rattle.theory.proofs.Each.{T-true, T-false}
-use Rattle.theory.proofs.First.{first-holds, first-unique}
+use Rattle.theory.proofs.First.{first-holds, first-among, first-unique}
+use Rattle.theory.proofs.Walk.{walk-positive}
 use Rattle.theory.proofs.Ascending.{least-is-first}
 use Rattle.theory.proofs.Signed.{pos-le, le-pos, ≤ℤ-antisymm}
 use Rattle.theory.proofs.Verdict.{AllSteady, RivalsMeet, point-meets, verdict-by-points}
 use Rattle.theory.proofs.Raise.{above-stays, load-of-touched}
 use Rattle.theory.proofs.Bound.{PointFor, quotient-has-room, bound-is, bound-unique, bound-covers}
 use Rattle.theory.proofs.Allowance.{allowance-unique, raised-steady, raised-point, point-for}
-use Rattle.theory.proofs.Trial.{meets-with-less, untouched-meets, touched-decide, trial-allowance}
+use Rattle.theory.proofs.Trial.{response-below-room, meets-with-less, untouched-meets, touched-decide, trial-allowance}
 use Rattle.theory.proofs.Lists.{first-miss-unique, first-broken-unique, clash, late}
 
 -- a whole number that is at least a, and not at least one more, is a
@@ -89,9 +90,11 @@ module _ (rows : List Row) (steady : AllSteady rows) (i : ℕ) (inside : i < len
     pub touched : T (touches rows i k)
     pub its-bound : IsBound rows k i (pos a)
     pub its-quotient : quotient rows k i p ≡ pos a
+    pub done-by-point : (R : ℕ) → IsResponse (raised rows i a) k R → R ≤ p
 
   -- THE REASON NAMED IS THE TRUE ONE
   pub limits-truly : (k p : ℕ) (l : Limits rows i k p) → TrueReason k p (l .allowance)
+  unfolding points
   limits-truly k p l = record {
     all-meet-with-it = l .is-allowance .all-meet;
     misses-with-one-more = l .first-to-miss .misses;
@@ -99,7 +102,13 @@ module _ (rows : List Row) (steady : AllSteady rows) (i : ℕ) (inside : i < len
         l .first-to-miss .above-meet h (still-in-set (suc a) in-set) (subst (λ (relation : ℕ → ℕ → Bool). T (relation h k)) (sym (above-stays rows i (suc a) inside)) t);
     touched = touched;
     its-bound = is-bound;
-    its-quotient = bound-unique rows k i (quotient rows k i p) (pos a) (first-holds (λ q. IsBound rows k i (quotient rows k i q)) (points rows k) p (l .first-greatest)) is-bound;
+    its-quotient = is-quotient;
+    done-by-point = λ R is-R.
+        response-below-room (raised rows i a) k R p (raised-steady rows steady i inside a k (still-in-set a in-set) .runs) is-R
+        (record {
+          from-one = walk-positive (levels rows k) (length (levels rows k)) (rowAt rows k .D) p (steady k in-set .some-deadline) among;
+          enough = omega (arith, load-of-touched rows i a inside k p touched, quotient-has-room rows steady k i in-set inside a p among .0 (subst (λ (z : ℤ). pos a ≤ℤ z) (sym is-quotient) (≤ℤ-refl (pos a))));
+        });
   }
     where
       a : ℕ
@@ -123,6 +132,12 @@ module _ (rows : List Row) (steady : AllSteady rows) (i : ℕ) (inside : i < len
 
       is-bound : IsBound rows k i (pos a)
       is-bound = bound-exactly a k in-set has-room no-more
+
+      among : List·Memᴰ p (points rows k)
+      among = first-among (λ q. IsBound rows k i (quotient rows k i q)) (points rows k) p (l .first-greatest)
+
+      is-quotient : quotient rows k i p ≡ pos a
+      is-quotient = bound-unique rows k i (quotient rows k i p) (pos a) (first-holds (λ q. IsBound rows k i (quotient rows k i q)) (points rows k) p (l .first-greatest)) is-bound
 
   -- a search by points finds the limiting row: each row that the raise touches has a point with room for a more, those above row k even for one more, row k itself
   -- for no more; and the point: the least of row k's with room for a more

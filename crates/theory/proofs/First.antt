@@ -12,6 +12,12 @@ module _ (P : ℕ → Type 0) where
   first-holds (x ∷ xs) p (inl here) = subst P (here .0) (here .1)
   first-holds (x ∷ xs) p (inr later) = first-holds xs p (later .1)
 
+  -- and it is one of the list
+  pub first-among : (xs : List ℕ) (p : ℕ) → First P xs p → List·Memᴰ p xs
+  first-among [] p f = absurd f
+  first-among (x ∷ xs) p (inl here) = List·Memᴰ·head (sym (here .0))
+  first-among (x ∷ xs) p (inr later) = List·Memᴰ·tail (first-among xs p (later .1))
+
   -- one is the first
   pub first-unique : (xs : List ℕ) (p q : ℕ) → First P xs p → First P xs q → p ≡ q
   first-unique [] p q f g = absurd f
