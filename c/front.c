@@ -149,7 +149,8 @@ static bool print_why(const struct certificate *certificate, unsigned row)
         printf("row %u on core %u: why differs\n", row, figures[0]);
         return false;
     }
-    printf("row %u on core %u has an allowance of %u: with all of it row %u is done by %u, with one tick more it would be late\n",
+    printf("row %u on core %u has an allowance of %u: "
+           "with all of it row %u is done by %u, with one tick more it would be late\n",
            row, figures[0], number(figures + 5), core.row[why.limited_by - 1], (unsigned)why.point);
     return true;
 }

@@ -2,6 +2,5 @@
 pub mod Next
 pub mod Beyond
 pub mod Reaching
-pub mod Most
 pub mod Limiting
 pub mod ByRank

@@ -1,4 +1,4 @@
--- The search for the row that limits the one at place p over the rows by rank, from the lowest up: what holds after the rows from place j on, how it begins, goes on
+-- The search for the row that limits the one at place p over the rows by rank, from that row down: what holds after the rows from p to before place j, how it begins, goes on
 -- and ends.
 use mathlib.Core.Path.{_≡_, refl, sym, ap, _∙_, subst}
 use Prim.Native.Nat.{ℕ, suc, _+_, _-_, _*_, _≤_, _<_}
@@ -10,34 +10,34 @@ use lib.ListN.{length, getD, take}
 use Rattle.theory.specs.Response.{ceil}
 use Rattle.theory.specs.Lists.{rowsOf}
 use Rattle.theory.proofs.Ceil.{ceil-one}
-use Rattle.theory.proofs.Tests.{equal-or-not}
+use Rattle.theory.proofs.Tests.{equal-or-not, order-cases}
 use Rattle.theory.proofs.Walk.{walk-within, walk-positive}
 use Rattle.raises.proofs.Raised.{raise-mono}
 use Rattle.trials.specs.Trial.{countedBy}
 use Rattle.trials.proofs.Search.{counts-itself-once, counts-by-period}
-use Rattle.reasons.specs.Reason.{LeastWithRoom, Reached, loadWith, pointsAt, PointWith, PointsByRank, IsMost, LimitsAt}
+use Rattle.reasons.specs.Reason.{LeastWithRoom, Reached, loadWith, pointsAt, PointWith, PointsByRank, LimitsAt}
 
 module _ (cs ds ts : List ℕ) (p : ℕ) where
-  -- a row limits the one at place p among those from place j on
-  pub record Found (j most row point : ℕ) : Type 0 where
-    pub from : j ≤ row
-    pub inside : row < length cs
-    pub above-have-more : (q : ℕ) → j ≤ q → q < row → PointWith cs ds ts p q (suc most)
-    pub no-more : PointWith cs ds ts p row (suc most) → ⊥
-    pub least-point : LeastWithRoom (loadWith cs ts p row most) (pointsAt ds ts row) point
+  -- of the rows from place p to before place j, one limits the row at place p: each has room for the smallest raise, those before it for more, and it for no more
+  pub record Found (smallest row point j : ℕ) : Type 0 where
+    pub from : p ≤ row
+    pub before : row < j
+    pub each-has-room : (q : ℕ) → p ≤ q → q < j → PointWith cs ds ts p q smallest
+    pub above-have-more : (q : ℕ) → p ≤ q → q < row → PointWith cs ds ts p q (suc smallest)
+    pub no-more : PointWith cs ds ts p row (suc smallest) → ⊥
+    pub least-point : LeastWithRoom (loadWith cs ts p row smallest) (pointsAt ds ts row) point
 
-  -- none does yet: each has room for more than is in question
-  pub record NotYet (j most : ℕ) : Type 0 where
-    pub still-in-question : IsMost cs ds ts p most
-    pub have-more : (q : ℕ) → j ≤ q → q < length cs → PointWith cs ds ts p q (suc most)
+  -- before the first, the row itself: no raise from this one on takes it to no more than its deadline
+  pub record NotYet (smallest j : ℕ) : Type 0 where
+    pub at-first : j ≡ p
+    pub past-deadline : getD ds p 0 < getD cs p 0 + smallest
 
-  -- after the rows from place j on
-  pub record Searched (most row point j : ℕ) : Type 0 where
+  -- after the rows from place p to before place j
+  pub record Searched (smallest row point j : ℕ) : Type 0 where
     pub from : p ≤ j
     pub places : j ≤ length cs
-    pub up-to : getD cs p 0 + most ≤ getD ds p 0
-    pub each-has-room : (q : ℕ) → j ≤ q → q < length cs → PointWith cs ds ts p q most
-    pub found : Found j most row point ⊎ NotYet j most
+    pub by-deadline : smallest ≤ getD ds p 0
+    pub found : Found smallest row point j ⊎ NotYet smallest j
 
   -- a point with room for more has room for less
   room-for-less : (j a b : ℕ) → a ≤ b → PointWith cs ds ts p j b → PointWith cs ds ts p j a
@@ -48,100 +48,117 @@ module _ (cs ds ts : List ℕ) (p : ℕ) where
   }
 
   module _ (rows : PointsByRank cs ds ts) (inside : p < length cs) where
-    -- it begins with the largest raise in question
-    pub search-begins : {most : ℕ} → IsMost cs ds ts p most → (row point : ℕ) → Searched most row point (length cs)
-    search-begins is-most row point = record {
+    -- it begins one above the row's distance to its deadline
+    pub search-begins : (row point : ℕ) → Searched (getD ds p 0 - getD cs p 0 + 1) row point p
+    search-begins row point = record {
       from = omega arith;
       places = omega arith;
-      up-to = is-most .own-distance;
-      each-has-room = λ q past h. absurd (omega arith);
-      found = inr (record { still-in-question = is-most; have-more = λ q past h. absurd (omega arith) });
+      by-deadline = omega (arith, rows .by-deadline p inside, rows .runs p inside);
+      found = inr (record { at-first = refl; past-deadline = omega (arith, rows .by-deadline p inside) });
     }
 
-    -- no raise in question reaches the period for which a row counts it
-    pub below-period : (most : ℕ) → getD cs p 0 + most ≤ getD ds p 0 → (j : ℕ) → (most < countedBy ts p j) × (countedBy ts p j ≤ 1_000_000)
-    below-period most up-to j = go (equal-or-not j p)
+    -- no raise in question passes the period for which a row counts it
+    pub within-period : (smallest : ℕ) → smallest ≤ getD ds p 0 → (j : ℕ) → (smallest ≤ countedBy ts p j) × (1 ≤ countedBy ts p j) × (countedBy ts p j ≤ 1_000_000)
+    within-period smallest by-deadline j = go (equal-or-not j p)
       where
-        go : (j ≡ p) ⊎ (j ≡ p → ⊥) → (most < countedBy ts p j) × (countedBy ts p j ≤ 1_000_000)
-        go (inl e) = rw (e, counts-itself-once ts p) (omega (arith, rows .runs p inside, rows .by-period p inside, rows .small .by-million p inside), omega arith)
-        go (inr d) = rw (counts-by-period ts p j d) (omega (arith, rows .runs p inside, rows .by-period p inside), rows .small .by-million p inside)
+        go : (j ≡ p) ⊎ (j ≡ p → ⊥) → (smallest ≤ countedBy ts p j) × (1 ≤ countedBy ts p j) × (countedBy ts p j ≤ 1_000_000)
+        go (inl e) = rw (e, counts-itself-once ts p) (omega (arith, rows .by-period p inside, rows .small .by-million p inside), omega arith, omega arith)
+        go (inr d) = rw (counts-by-period ts p j d) (omega (arith, rows .by-period p inside), rows .small .period-positive p inside, rows .small .by-million p inside)
 
-    module _ {most row point j : ℕ} (so-far : Searched most row point j) (more : p < j) {beyond next : ℕ} (reached : Reached (loadWith cs ts p (j - 1)) (pointsAt ds ts (j - 1)) most beyond next) where
-      in-set : j - 1 < length cs
-      in-set = omega (arith, so-far .places)
+    -- the row itself has no room for more than its distance to its deadline
+    own-room : (a : ℕ) → PointWith cs ds ts p p a → getD cs p 0 + a ≤ getD ds p 0
+    own-room a q =
+        let by-deadline : q .point ≤ getD ds p 0 = walk-within (rowsOf (take p ts) (take p ts) (take p ts)) (length (take p ts)) (getD ds p 0) (q .point) (q .among-points) in
+        let from-one : 1 ≤ q .point = walk-positive (rowsOf (take p ts) (take p ts) (take p ts)) (length (take p ts)) (getD ds p 0) (q .point) (omega (arith, rows .runs p inside, rows .by-deadline p inside)) (q .among-points) in
+        let once : a * ceil (q .point) (countedBy ts p p) ≡ a =
+        ap (λ (m : ℕ). a * ceil (q .point) m) (counts-itself-once ts p) ∙ ap (λ (n : ℕ). a * n) (ceil-one (q .point) from-one (omega (arith, rows .by-period p inside, rows .small .by-million p inside))) ∙ mul-one a in
+        omega (arith, q .room, once, by-deadline)
 
+    module _ {smallest row point j : ℕ} (so-far : Searched smallest row point j) (more : j < length cs) {beyond next : ℕ} (reached : Reached (loadWith cs ts p j) (pointsAt ds ts j) smallest beyond next) where
       -- each row has a point, so something is reached
       pub something-reached : 1 ≤ beyond
       something-reached = go (equal-or-not beyond 0)
         where
           go : (beyond ≡ 0) ⊎ (beyond ≡ 0 → ⊥) → 1 ≤ beyond
-          go (inl none) = let q = rows .have-points p (j - 1) in-set in absurd (reached .no-room (omega arith) (q .point) (q .among-points) (subst (λ (a : ℕ). loadWith cs ts p (j - 1) a (q .point) ≤ q .point) (sym none) (q .room)))
+          go (inl none) = let q = rows .have-points p j more in absurd (reached .no-room (omega arith) (q .point) (q .among-points) (subst (λ (a : ℕ). loadWith cs ts p j a (q .point) ≤ q .point) (sym none) (q .room)))
           go (inr some) = omega arith
 
       one-less : beyond ≡ suc (beyond - 1)
       one-less = omega (arith, something-reached)
 
       -- a point has room for one less than is reached
-      at-beyond : PointWith cs ds ts p (j - 1) (beyond - 1)
+      at-beyond : PointWith cs ds ts p j (beyond - 1)
       at-beyond = record { point = next; among-points = reached .among-points something-reached; room = reached .room (beyond - 1) one-less }
 
-      -- the row before has room for no more than the smallest raise so far: it limits
-      pub search-lowers : beyond ≤ suc most → Searched (beyond - 1) (j - 1) next (j - 1)
+      -- the rows before have room for the smallest raise so far
+      earlier : (q : ℕ) → p ≤ q → q < j → PointWith cs ds ts p q smallest
+      earlier q h l = ⊎-elim (λ f. f .each-has-room q h l) (λ n. absurd (omega (arith, n .at-first))) (so-far .found)
+
+      -- the row has no room for it: it limits
+      pub search-lowers : beyond ≤ smallest → Searched (beyond - 1) j next (j + 1)
       search-lowers up-to = record {
-        from = omega arith;
-        places = omega (arith, so-far .places);
-        up-to = omega (arith, so-far .up-to, something-reached);
-        each-has-room = λ q past h. ⊎-elim
-            (λ e. subst (λ (x : ℕ). PointWith cs ds ts p x (beyond - 1)) (sym e) at-beyond)
-            (λ d. room-for-less q (beyond - 1) most (omega (arith, something-reached)) (so-far .each-has-room q (omega arith) h)) (equal-or-not q (j - 1));
+        from = omega (arith, so-far .from);
+        places = omega arith;
+        by-deadline = omega (arith, so-far .by-deadline);
         found = inl (record {
-          from = omega arith;
-          inside = in-set;
-          above-have-more = λ q past h. absurd (omega arith);
-          no-more = λ q. reached .no-room up-to (q .point) (q .among-points) (subst (λ (a : ℕ). loadWith cs ts p (j - 1) a (q .point) ≤ q .point) (sym one-less) (q .room));
+          from = so-far .from;
+          before = omega arith;
+          each-has-room = λ q h l. ⊎-elim
+              (λ e. subst (λ (x : ℕ). PointWith cs ds ts p x (beyond - 1)) (sym e) at-beyond)
+              (λ d. room-for-less q (beyond - 1) smallest (omega arith) (earlier q h (omega arith))) (equal-or-not q j);
+          above-have-more = λ q h l. room-for-less q (suc (beyond - 1)) smallest (omega (arith, something-reached)) (earlier q h l);
+          no-more = λ q. reached .no-room up-to (q .point) (q .among-points) (subst (λ (a : ℕ). loadWith cs ts p j a (q .point) ≤ q .point) (sym one-less) (q .room));
           least-point = record { among-points = reached .among-points something-reached; room = reached .room (beyond - 1) one-less; least = reached .least up-to (beyond - 1) one-less };
         });
       }
 
-      -- it has room for one more: what was found stays
-      pub search-stays : suc most < beyond → Searched most row point (j - 1)
+      -- it has room for it: what was found stays
+      pub search-stays : smallest < beyond → Searched smallest row point (j + 1)
       search-stays further = record {
-        from = omega arith;
-        places = omega (arith, so-far .places);
-        up-to = so-far .up-to;
-        each-has-room = λ q past h. ⊎-elim (λ e. subst (λ (x : ℕ). PointWith cs ds ts p x most) (sym e) (has-room most (omega arith))) (λ d. so-far .each-has-room q (omega arith) h) (equal-or-not q (j - 1));
-        found = ⊎-elim (λ f. inl (still f)) (λ n. inr (not-yet n)) (so-far .found);
+        from = omega (arith, so-far .from);
+        places = omega arith;
+        by-deadline = so-far .by-deadline;
+        found = ⊎-elim (λ f. inl (still f)) (λ n. absurd (not-the-first n)) (so-far .found);
       }
         where
-          has-room : (a : ℕ) → a < beyond → PointWith cs ds ts p (j - 1) a
-          has-room a h = room-for-less (j - 1) a (beyond - 1) (omega arith) at-beyond
+          has-room : PointWith cs ds ts p j smallest
+          has-room = room-for-less j smallest (beyond - 1) (omega arith) at-beyond
 
-          still : Found j most row point → Found (j - 1) most row point
+          still : Found smallest row point j → Found smallest row point (j + 1)
           still f = record {
-            from = omega (arith, f .from);
-            inside = f .inside;
-            above-have-more = λ q past h. ⊎-elim (λ e. subst (λ (x : ℕ). PointWith cs ds ts p x (suc most)) (sym e) (has-room (suc most) further)) (λ d. f .above-have-more q (omega arith) h) (equal-or-not q (j - 1));
+            from = f .from;
+            before = omega (arith, f .before);
+            each-has-room = λ q h l. ⊎-elim (λ e. subst (λ (x : ℕ). PointWith cs ds ts p x smallest) (sym e) has-room) (λ d. f .each-has-room q h (omega arith)) (equal-or-not q j);
+            above-have-more = f .above-have-more;
             no-more = f .no-more;
             least-point = f .least-point;
           }
 
-          not-yet : NotYet j most → NotYet (j - 1) most
-          not-yet n = record {
-            still-in-question = n .still-in-question;
-            have-more = λ q past h. ⊎-elim (λ e. subst (λ (x : ℕ). PointWith cs ds ts p x (suc most)) (sym e) (has-room (suc most) further)) (λ d. n .have-more q (omega arith) h) (equal-or-not q (j - 1));
+          not-the-first : NotYet smallest j → ⊥
+          not-the-first n = omega (arith, n .past-deadline, own-room smallest (subst (λ (x : ℕ). PointWith cs ds ts p x smallest) (n .at-first) has-room))
+
+    module _ {smallest row point j : ℕ} (done : Searched smallest row point j) where
+      -- where the rows from place j on have room for the smallest raise too, the limiting row is found
+      found-limits : (NotYet smallest j → ⊥) → ((q : ℕ) → j ≤ q → q < length cs → PointWith cs ds ts p q smallest) → LimitsAt cs ds ts p row point
+      found-limits not-first rest = ⊎-elim ends (λ n. absurd (not-first n)) (done .found)
+        where
+          ends : Found smallest row point j → LimitsAt cs ds ts p row point
+          ends f = record {
+            allowance = smallest;
+            from = f .from;
+            inside = omega (arith, f .before, done .places);
+            each-has-room = λ q h l. ⊎-elim (λ (b : q < j). f .each-has-room q h b) (⊎-elim (λ (e : q ≡ j). rest q (omega arith) l) (λ (b : j < q). rest q (omega arith) l)) (order-cases q j);
+            above-have-more = f .above-have-more;
+            no-more = f .no-more;
+            least-point = f .least-point;
           }
 
-  -- after the row itself the limiting row is found
-  pub search-ends : {most row point j : ℕ} → Searched most row point j → j ≤ p → LimitsAt cs ds ts p row point
-  search-ends {most} {row} {point} {j} done past = ⊎-elim ends (λ n. absurd (n .still-in-question .no-larger (λ q h. n .have-more q (omega arith)))) (done .found)
-    where
-      ends : Found j most row point → LimitsAt cs ds ts p row point
-      ends f = record {
-        allowance = most;
-        from = omega (arith, f .from, done .from);
-        inside = f .inside;
-        each-has-room = λ q h. done .each-has-room q (omega arith);
-        above-have-more = λ q h. f .above-have-more q (omega arith);
-        no-more = f .no-more;
-        least-point = f .least-point;
-      }
+      -- after the last row
+      pub search-ends : length cs ≤ j → LimitsAt cs ds ts p row point
+      search-ends past = found-limits (λ n. omega (arith, n .at-first)) (λ q h l. absurd (omega arith))
+
+      -- and where the smallest raise is nothing, for which every row has room
+      pub search-left : smallest ≡ 0 → LimitsAt cs ds ts p row point
+      search-left none =
+          found-limits (λ n. omega (arith, n .past-deadline, rows .by-deadline p inside))
+          (λ q h l. subst (PointWith cs ds ts p q) (sym none) (rows .have-points p q l))

@@ -54,9 +54,9 @@ module _ (load : ℕ → ℕ → ℕ) (raise-mono : (a b t : ℕ) → a ≤ b �
         not-earlier a e q m room true up-to = absurd (so-far .no-room q m (leb-true q last up-to) (le-trans (raise-mono beyond a q (omega arith)) room))
         not-earlier a e q m room false above = next .least q m (leb-false q last above)
 
-  module _ (ts : List ℕ) (limit : ℕ) {last beyond point : ℕ} (so-far : ReachedBy load (walkFrom ts limit) last beyond point) (most : ℕ) where
-    -- what is reached, where that is known to be all or beyond one more than is asked
-    as-reached : (beyond ≤ suc most → limit ≤ last) → Reached load (walkFrom ts limit) most beyond point
+  module _ (ts : List ℕ) (limit : ℕ) {last beyond point : ℕ} (so-far : ReachedBy load (walkFrom ts limit) last beyond point) (enough : ℕ) where
+    -- what is reached, after all points or where that is enough
+    as-reached : (beyond ≤ enough → limit ≤ last) → Reached load (walkFrom ts limit) enough beyond point
     as-reached all = record {
       among-points = λ h. so-far .least-with-room (beyond - 1) (omega arith) .among-points;
       room = λ a e. so-far .least-with-room a e .room;
@@ -65,16 +65,16 @@ module _ (load : ℕ → ℕ → ℕ) (raise-mono : (a b t : ℕ) → a ≤ b �
     }
 
     -- after the last point
-    pub reaching-ends : limit ≤ last → Reached load (walkFrom ts limit) most beyond point
+    pub reaching-ends : limit ≤ last → Reached load (walkFrom ts limit) enough beyond point
     reaching-ends all = as-reached (λ up-to. all)
 
-    -- or where it is beyond one more than is asked
-    pub reaching-left : suc most < beyond → Reached load (walkFrom ts limit) most beyond point
+    -- or where it is enough
+    pub reaching-left : enough < beyond → Reached load (walkFrom ts limit) enough beyond point
     reaching-left further = as-reached (λ up-to. absurd (omega arith))
 
--- the limit is a point, and where it has room for one more than is asked, no other is wanted
-pub reached-at-limit : (load : ℕ → ℕ → ℕ) (ts : List ℕ) (limit most after : ℕ) → IsBeyond load limit (suc most) after → suc most < after → Reached load (walkFrom ts limit) most after limit
-reached-at-limit load ts limit most after is further = record {
+-- the limit is a point, and where it has room for what is enough, no other is wanted
+pub reached-at-limit : (load : ℕ → ℕ → ℕ) (ts : List ℕ) (limit enough after : ℕ) → IsBeyond load limit enough after → enough < after → Reached load (walkFrom ts limit) enough after limit
+reached-at-limit load ts limit enough after is further = record {
   among-points = λ h. walk-start (rowsOf ts ts ts) (length ts) limit;
   room = λ a e. is .room-for-less a e further;
   no-room = λ up-to. absurd (omega arith);

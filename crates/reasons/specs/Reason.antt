@@ -31,13 +31,13 @@ pub record LeastWithRoom (load : ℕ → ℕ) (points : List ℕ) (p : ℕ) : Ty
   pub room : load p ≤ p
   pub least : (q : ℕ) → List·Memᴰ q points → load q ≤ q → p ≤ q
 
--- how far points reach: `point` has room for one less than `beyond`; and where that is not beyond one more than `most`, none has room for it, and `point` is the least
--- with room for one less
-pub record Reached (load : ℕ → ℕ → ℕ) (points : List ℕ) (most beyond point : ℕ) : Type 0 where
+-- how far points reach: `point` has room for one less than `beyond`; and unless some is known to have room for a raise that is enough, none has room for `beyond`, and `point` is the
+-- least with room for one less
+pub record Reached (load : ℕ → ℕ → ℕ) (points : List ℕ) (enough beyond point : ℕ) : Type 0 where
   pub among-points : 1 ≤ beyond → List·Memᴰ point points
   pub room : (a : ℕ) → beyond ≡ suc a → load a point ≤ point
-  pub no-room : beyond ≤ suc most → (q : ℕ) → List·Memᴰ q points → load beyond q ≤ q → ⊥
-  pub least : beyond ≤ suc most → (a : ℕ) → beyond ≡ suc a → (q : ℕ) → List·Memᴰ q points → load a q ≤ q → point ≤ q
+  pub no-room : beyond ≤ enough → (q : ℕ) → List·Memᴰ q points → load beyond q ≤ q → ⊥
+  pub least : beyond ≤ enough → (a : ℕ) → beyond ≡ suc a → (q : ℕ) → List·Memᴰ q points → load a q ≤ q → point ≤ q
 
 -- the load of the row at place j with a more in the row at place p, and its points
 abbrev pub loadWith : List ℕ → List ℕ → ℕ → ℕ → ℕ → ℕ → ℕ
@@ -60,11 +60,6 @@ pub record PointsByRank (cs ds ts : List ℕ) : Type 0 where
   pub by-deadline : (j : ℕ) → j < length cs → getD cs j 0 ≤ getD ds j 0
   pub by-period : (j : ℕ) → j < length cs → getD ds j 0 ≤ getD ts j 0
   pub have-points : (p j : ℕ) → j < length cs → PointWith cs ds ts p j 0
-
--- no raise above `most` is in question for the row at place p: it is within the row's own distance to its deadline, and not every row from p on has a point with room for more
-pub record IsMost (cs ds ts : List ℕ) (p most : ℕ) : Type 0 where
-  pub own-distance : getD cs p 0 + most ≤ getD ds p 0
-  pub no-larger : ((q : ℕ) → p ≤ q → q < length cs → PointWith cs ds ts p q (suc most)) → ⊥
 
 -- the row at place `row` limits the one at place p at a point: it and the rows behind p have points with room for the allowance, those before it for one more, it for no more, and
 -- the point is its least with room for the allowance

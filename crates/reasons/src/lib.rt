@@ -4,15 +4,13 @@ ghost use Prim.Native.Nat.{ℕ, _≤_, _<_};
 ghost use mathlib.Core.List.{List·Memᴰ};
 ghost use lib.ListN.{length, getD, take};
 ghost use Rattle.theory.specs.Row.{AllWithin};
+ghost use Rattle.theory.specs.Response.{AllMeet};
 ghost use Rattle.theory.specs.Lists.{Shaped, rowsOf};
 ghost use Rattle.theory.specs.Explanation.{Limits};
 ghost use Rattle.demands.specs.Levels.{Small};
 ghost use Rattle.climbs.specs.Ranking.{rankingBy};
 ghost use Rattle.raises.specs.Raise.{raisedLoad};
-ghost use Rattle.responses.specs.Verdict.{RespondsInTime};
-ghost use Rattle.trials.specs.Trial.{InTimeByRank};
-ghost use Rattle.reasons.specs.Reason.{walkFrom, IsNextPoint, IsBeyond, Reached, PointsByRank, IsMost, LimitsAt};
-use raises::Raise;
+ghost use Rattle.reasons.specs.Reason.{walkFrom, IsNextPoint, IsBeyond, Reached, PointsByRank, LimitsAt};
 
 // How far the points of a row's walk reach: one more than the largest raise that any of them has room for, and the first with room for that.
 struct Reach {
@@ -58,15 +56,15 @@ fn beyond_at(p: u32, own: u32, c: &[u32], t: &[u32], period: u32, beyond: u32) -
     beyond
 }
 
-// How far the points of a row's walk reach, as long as it is not known to be beyond one more than a given raise: mostly the last point tells that.
-fn reach_of(limit: u32, own: u32, c: &[u32], t: &[u32], period: u32, most: u32) -> Reach
+// How far the points of a row's walk reach, as long as none is known to have room for a raise that is enough: mostly the last one tells that.
+fn reach_of(limit: u32, own: u32, c: &[u32], t: &[u32], period: u32, enough: u32) -> Reach
     requires { ⌜ Small (now c) (now t) ⌝ }
     requires { ⌜ (1 ≤ limit) × (limit ≤ 1_000_000) × (own ≤ 1_000_000) ⌝ }
-    requires { ⌜ (most < period) × (period ≤ 1_000_000) ⌝ }
-    ensures { λ r. ⌜ Reached (raisedLoad own (now (c .entry)) (now (t .entry)) period) (walkFrom (now (t .entry)) limit) most (r .beyond) (r .point) ⌝ }
+    requires { ⌜ (enough ≤ period) × (1 ≤ period) × (period ≤ 1_000_000) ⌝ }
+    ensures { λ r. ⌜ Reached (raisedLoad own (now (c .entry)) (now (t .entry)) period) (walkFrom (now (t .entry)) limit) enough (r .beyond) (r .point) ⌝ }
 {
-    let at_limit = beyond_at(limit, own, c, t, period, most + 1);
-    if most + 1 < at_limit {
+    let at_limit = beyond_at(limit, own, c, t, period, enough);
+    if enough < at_limit {
         return Reach {
             beyond: at_limit,
             point: limit,
@@ -76,7 +74,7 @@ fn reach_of(limit: u32, own: u32, c: &[u32], t: &[u32], period: u32, most: u32) 
     let mut point = 0;
     let mut last = 0;
     while last < limit {
-        if most + 1 < beyond {
+        if enough < beyond {
             break;
         }
         last = next_point(limit, last, t);
@@ -89,36 +87,28 @@ fn reach_of(limit: u32, own: u32, c: &[u32], t: &[u32], period: u32, most: u32) 
     Reach { beyond, point }
 }
 
-// A raise of the row at place p above which none is in question, among rows by rank: its allowance where short climbs tell it, and else its own distance to its
-// deadline. The nearer it is, the sooner the walks end.
-fn largest_in_question(c: &[u32], d: &[u32], t: &[u32], response: &[u32], p: usize) -> u32
-    requires { ⌜ PointsByRank (now c) (now d) (now t) × InTimeByRank (now c) (now d) (now t) (now response) ⌝ }
-    requires { ⌜ p < length (now c) ⌝ }
-    ensures { λ r. ⌜ IsMost (now (c .entry)) (now (d .entry)) (now (t .entry)) p r ⌝ }
-{
-    match trials::allowance_at(c, d, t, response, p, 300) {
-        Raise::Largest(a) => a,
-        Raise::LeftOff => d[p] - c[p],
-    }
-}
-
-// The row that limits the one at place p, among rows by rank: only those from p on are touched, the lowest is asked first, and a row whose points have room for
-// one more than the smallest raise so far is left at the first that has.
-fn limit_at(c: &[u32], d: &[u32], t: &[u32], response: &[u32], p: usize) -> Limit
-    requires { ⌜ PointsByRank (now c) (now d) (now t) × InTimeByRank (now c) (now d) (now t) (now response) ⌝ }
+// The row that limits the one at place p, among rows by rank. Only those from p on are touched, and they are asked from the highest down: a row whose points have room for the smallest
+// raise so far is not the reason. The row itself comes first, and it has room for no more than its distance to its deadline.
+fn limit_at(c: &[u32], d: &[u32], t: &[u32], p: usize) -> Limit
+    requires { ⌜ PointsByRank (now c) (now d) (now t) ⌝ }
     requires { ⌜ p < length (now c) ⌝ }
     ensures { λ r. ⌜ LimitsAt (now (c .entry)) (now (d .entry)) (now (t .entry)) p (r .row) (r .point) ⌝ }
 {
-    let mut allowed = largest_in_question(c, d, t, response, p);
+    let mut smallest = d[p] - c[p] + 1;
     let mut row = p;
     let mut point = 0;
-    let mut j = c.len();
-    while p < j {
-        j -= 1;
+    let mut next = p;
+    while next < c.len() {
+        // Every row has room for nothing more.
+        if smallest == 0 {
+            break;
+        }
+        let j = next;
+        next += 1;
         let period = trials::counted_by(t, p, j);
-        let reached = reach_of(d[j], c[j], &c[..j], &t[..j], period, allowed);
-        if reached.beyond <= allowed + 1 {
-            allowed = reached.beyond - 1;
+        let reached = reach_of(d[j], c[j], &c[..j], &t[..j], period, smallest);
+        if reached.beyond <= smallest {
+            smallest = reached.beyond - 1;
             row = j;
             point = reached.point;
         }
@@ -139,18 +129,10 @@ fn place_of(order: &[usize], i: usize) -> usize
 }
 
 // The row that limits row i of a set that is on time, and the point at which it does.
-pub fn limit_of(
-    c: &[u32],
-    d: &[u32],
-    t: &[u32],
-    order: &[usize; 24],
-    response: &[u32; 24],
-    i: usize,
-) -> Limit
+pub fn limit_of(c: &[u32], d: &[u32], t: &[u32], order: &[usize; 24], i: usize) -> Limit
     requires { ⌜ Shaped (now c) (now d) (now t) × AllWithin (rowsOf (now c) (now d) (now t)) ⌝ }
     requires { ⌜ take (length (now d)) (now order) ≡ rankingBy (now d) ⌝ }
-    requires { ⌜ ((k : ℕ) → k < length (now c) → RespondsInTime (rowsOf (now c) (now d) (now t)) (now response) k) ⌝ }
-    requires { ⌜ i < length (now c) ⌝ }
+    requires { ⌜ AllMeet (rowsOf (now c) (now d) (now t)) × (i < length (now c)) ⌝ }
     ensures { λ r. ⌜ Limits (rowsOf (now (c .entry)) (now (d .entry)) (now (t .entry))) i (r .row) (r .point) ⌝ }
     ensures { λ r. ⌜ r .row < length (now (c .entry)) ⌝ }
 {
@@ -160,9 +142,7 @@ pub fn limit_of(
     let cs = climbs::gather(c, by_rank);
     let ds = climbs::gather(d, by_rank);
     let ts = climbs::gather(t, by_rank);
-    let rs = climbs::gather(response, by_rank);
-    let p = place_of(by_rank, i);
-    let limit = limit_at(&cs[..n], &ds[..n], &ts[..n], &rs[..n], p);
+    let limit = limit_at(&cs[..n], &ds[..n], &ts[..n], place_of(by_rank, i));
     let place = limit.row;
     let row = order[place];
     Limit {

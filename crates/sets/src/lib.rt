@@ -171,8 +171,7 @@ pub fn explain(c: &[u32], d: &[u32], t: &[u32], row: u32) -> Explanation
         return unexplained(answer);
     }
     let order = begun.order;
-    let response = begun.response;
-    let limit = reasons::limit_of(c, d, t, &order, &response, i);
+    let limit = reasons::limit_of(c, d, t, &order, i);
     Explanation {
         answer: Answer::Accepted,
         limiting: limit.row as u32 + 1,

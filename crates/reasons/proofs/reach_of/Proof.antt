@@ -3,7 +3,6 @@ use mathlib.Core.Path.{_≡_, refl, sym, ap, subst}
 use Prim.Native.Nat.{ℕ, suc, _-_, _≤_, _<_}
 use mathlib.Core.Logic.{⊎-elim}
 use native.Mathlib.Omega.{arith}
-use native.Mathlib.Numerals.{add-one}
 use borrow.Author.Needs.{needs}
 use lib.ListN.{length}
 use Rattle.theory.specs.Lists.{rowsOf}
@@ -16,30 +15,24 @@ use Rattle.reasons.proofs.reach_of.Statement.{statement}
 use Rattle.reasons.proofs.reach_of.Tie as tie
 
 abbrev Inv-loop : tie.InvT-loop
-Inv-loop limit own c t period most at-limit beyond₀ point₀ last₀ beyond point last = ReachedBy (raisedLoad own c t period) (walkFrom t limit) last beyond point
+Inv-loop limit own c t period enough at-limit beyond₀ point₀ last₀ beyond point last = ReachedBy (raisedLoad own c t period) (walkFrom t limit) last beyond point
 
 abbrev μ-loop : tie.MeasureT-loop
-μ-loop limit own c t period most at-limit beyond₀ point₀ last₀ beyond point last = limit - last
+μ-loop limit own c t period enough at-limit beyond₀ point₀ last₀ beyond point last = limit - last
 
 -- the load grows with the raise
 grows : (start : tie.Start Inv-loop μ-loop)
     → let row = start .args in (a b t : ℕ) → a ≤ b → raisedLoad (row .own) (row .c .now) (row .t .now) (row .period) a t ≤ raisedLoad (row .own) (row .c .now) (row .t .now) (row .period) b t
 grows start = let row = start .args in raise-mono (row .own) (row .c .now) (row .t .now) (row .period)
 
-add-beyond-at : tie.Need-add-beyond-at Inv-loop μ-loop
-add-beyond-at c = omega (arith, c .before .before .pre .1 .1)
-
 beyond-at-requires : tie.Need-beyond-at-requires Inv-loop μ-loop
-beyond-at-requires c κs = let pre = c .before .before .pre in (pre .0, (pre .1 .0, (omega (arith, pre .1 .1), omega (arith, pre .1 .1), pre .1 .1 .1)))
-
-add-if1 : tie.Need-add-if1 Inv-loop μ-loop
-add-if1 c = omega (arith, c .before .before .before .pre .1 .1)
+beyond-at-requires c κs = let pre = c .before .before .pre in (pre .0, (pre .1 .0, pre .1 .1))
 
 returns : tie.Need-returns Inv-loop μ-loop
 returns c =
     let start = c .before .before .before .before in
-    reached-at-limit (raisedLoad (start .args .own) (start .args .c .now) (start .args .t .now) (start .args .period)) (start .args .t .now) (start .args .limit) (start .args .most) (c .before .beyond-at .result)
-    (rw (← add-one (start .args .most)) (c .before .beyond-at .ensures)) (omega arith)
+    reached-at-limit (raisedLoad (start .args .own) (start .args .c .now) (start .args .t .now) (start .args .period)) (start .args .t .now) (start .args .limit) (start .args .enough) (c .before .beyond-at .result)
+    (c .before .beyond-at .ensures) (omega arith)
 
 loop-holds : tie.Need-loop-holds Inv-loop μ-loop
 loop-holds c =
@@ -47,9 +40,6 @@ loop-holds c =
     let periods = start .args .t .now in
     reaching-begins (raisedLoad (start .args .own) (start .args .c .now) periods (start .args .period)) (grows start) (walkFrom periods (start .args .limit))
     (λ q m. walk-positive (rowsOf periods periods periods) (length periods) (start .args .limit) q (start .pre .1 .0 .0) m)
-
-add-if2 : tie.Need-add-if2 Inv-loop μ-loop
-add-if2 c = omega (arith, c .before .before .before .before .before .before .pre .1 .1)
 
 next-point-requires : tie.Need-next-point-requires Inv-loop μ-loop
 next-point-requires c κs =
@@ -65,7 +55,7 @@ by-limit c =
 beyond-at-requires-2 : tie.Need-beyond-at-requires-2 Inv-loop μ-loop
 beyond-at-requires-2 c κs =
     let pre = c .before .before .before .before .before .before .before .before .pre in
-    (pre .0, ((omega (arith, c .next-point .ensures .above-last), omega (arith, by-limit c, pre .1 .0), pre .1 .0 .2), (omega (arith, pre .1 .1), omega (arith, pre .1 .1), pre .1 .1 .1)))
+    (pre .0, ((omega (arith, c .next-point .ensures .above-last), omega (arith, by-limit c, pre .1 .0), pre .1 .0 .2), (omega (arith, pre .1 .1), pre .1 .1 .1, pre .1 .1 .2)))
 
 loop-less : tie.Need-loop-less Inv-loop μ-loop
 loop-less c = omega (arith, c .before .before .next-point .ensures .above-last)
@@ -86,10 +76,10 @@ loop-again-2 c =
     (λ room. c .before .beyond-at2 .ensures .no-room (rw same room))
 
 returns-2 : tie.Need-returns-2 Inv-loop μ-loop
-returns-2 c = let start = c .before .before .before .before .before .before in reaching-ends _ (grows start) (start .args .t .now) (start .args .limit) (c .before .loop .inv) (start .args .most) (omega arith)
+returns-2 c = let start = c .before .before .before .before .before .before in reaching-ends _ (grows start) (start .args .t .now) (start .args .limit) (c .before .loop .inv) (start .args .enough) (omega arith)
 
 returns-3 : tie.Need-returns-3 Inv-loop μ-loop
-returns-3 c = let start = c .before .before .before .before .before .before .before in reaching-left _ (grows start) (start .args .t .now) (start .args .limit) (c .before .before .loop .inv) (start .args .most) (omega arith)
+returns-3 c = let start = c .before .before .before .before .before .before .before in reaching-left _ (grows start) (start .args .t .now) (start .args .limit) (c .before .before .loop .inv) (start .args .enough) (omega arith)
 
 pub reach-of-spec : {M : Type 1} → statement M
 reach-of-spec =
@@ -97,12 +87,9 @@ reach-of-spec =
     (tie.spec
     Inv-loop
     μ-loop
-    add-beyond-at
     beyond-at-requires
-    add-if1
     returns
     loop-holds
-    add-if2
     next-point-requires
     beyond-at-requires-2
     loop-less
