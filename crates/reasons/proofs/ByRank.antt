@@ -11,13 +11,13 @@ use Rattle.theory.specs.Rank.{above}
 use Rattle.theory.specs.Response.{ceil, load, AllMeet}
 use Rattle.theory.specs.Points.{walk, points, slack, times, touches, HasPoint}
 use Rattle.theory.specs.Lists.{rowsOf, Shaped}
-use Rattle.theory.specs.Explanation.{Limits}
+use Rattle.theory.specs.Explanation.{LimitedBy}
 use Rattle.theory.proofs.RowsOf.{row-of-lists}
 use Rattle.theory.proofs.Walk.{walk-by-periods, walk-within, walk-positive}
 use Rattle.theory.proofs.Signed.{slack-left}
 use Rattle.theory.proofs.Verdict.{within-steady, on-time-by-points}
 use Rattle.theory.proofs.Bound.{PointFor}
-use Rattle.theory.proofs.Explanation.{FoundByPoints, found-limits}
+use Rattle.theory.proofs.Explanation.{FoundByPoints, found-limited}
 use Rattle.climbs.specs.Ranking.{rankingBy, rivalsIn}
 use Rattle.climbs.proofs.Load.{rivalEntries}
 use Rattle.climbs.proofs.InLists.{in-lists, ranked, above-before, Ranked, rank-of}
@@ -27,7 +27,7 @@ use Rattle.raises.specs.Raise.{raisedLoad}
 use Rattle.raises.proofs.RaisedRow.{Counted}
 use Rattle.trials.specs.Trial.{countedBy}
 use Rattle.trials.proofs.ByRank.{RowsByRank, byRank, length-by-rank, in-order, entry, limits, in-set, small-by-rank, counted, touched-from, in-rows-at}
-use Rattle.reasons.specs.Reason.{walkFrom, loadWith, pointsAt, PointWith, PointsByRank, LimitsAt}
+use Rattle.reasons.specs.Reason.{walkFrom, loadWith, pointsAt, PointWith, PointsByRank, LimitedAt}
 
 module _ (cs ds ts : List ℕ) (shaped : Shaped cs ds ts) (within : AllWithin (rowsOf cs ds ts)) where
   abbrev rows : List Row
@@ -104,9 +104,9 @@ module _ (cs ds ts : List ℕ) (shaped : Shaped cs ds ts) (within : AllWithin (r
         record { point = q .point; among-points = among; room = omega (arith, q .room, same-load j from h a (q .point) among) }
 
     -- A LIMITING ROW BY RANK LIMITS THE ROW IN THE SET
-    limits-at-rank : AllMeet rows → (row point : ℕ) → LimitsAt executions deadlines periods p row point → Limits rows (at p) (at row) point
-    limits-at-rank all row point l =
-        found-limits rows (within-steady rows within) (at p) (in-rows-at cs ds ts shaped within p inside p inside) all (at row) point (l .allowance)
+    limited-at-rank : AllMeet rows → (row point : ℕ) → LimitedAt executions deadlines periods p row point → LimitedBy rows (at p) (at row) point
+    limited-at-rank all row point l =
+        found-limited rows (within-steady rows within) (at p) (in-rows-at cs ds ts shaped within p inside p inside) all (at row) point (l .allowance)
         (record {
           in-set = in-rows-at cs ds ts shaped within p inside row row-inside;
           touched = counted cs ds ts shaped within p inside row (l .from) row-inside .touched;
@@ -172,6 +172,6 @@ module _ (cs ds ts : List ℕ) (shaped : Shaped cs ds ts) (within : AllWithin (r
   points-by-rank = rw (by-rank .executions-by-rank, by-rank .deadlines-by-rank, by-rank .periods-by-rank) (points-in-order cs ds ts shaped within all)
 
   -- and a row that limits another limits it in the set
-  pub limits-of-rank : (p : ℕ) → p < length cs → (row point : ℕ) → LimitsAt executions deadlines periods p row point → Limits (rowsOf cs ds ts) (ranked cs ds ts shaped p) (ranked cs ds ts shaped row) point
-  limits-of-rank p inside row point l =
-      limits-at-rank cs ds ts shaped within p inside all row point (rw (by-rank .executions-by-rank, by-rank .deadlines-by-rank, by-rank .periods-by-rank) at l)
+  pub limited-of-rank : (p : ℕ) → p < length cs → (row point : ℕ) → LimitedAt executions deadlines periods p row point → LimitedBy (rowsOf cs ds ts) (ranked cs ds ts shaped p) (ranked cs ds ts shaped row) point
+  limited-of-rank p inside row point l =
+      limited-at-rank cs ds ts shaped within p inside all row point (rw (by-rank .executions-by-rank, by-rank .deadlines-by-rank, by-rank .periods-by-rank) at l)

@@ -15,7 +15,7 @@ use Rattle.theory.proofs.Walk.{walk-within, walk-positive}
 use Rattle.raises.proofs.Raised.{raise-mono}
 use Rattle.trials.specs.Trial.{countedBy}
 use Rattle.trials.proofs.Search.{counts-itself-once, counts-by-period}
-use Rattle.reasons.specs.Reason.{LeastWithRoom, Reached, loadWith, pointsAt, PointWith, PointsByRank, LimitsAt}
+use Rattle.reasons.specs.Reason.{LeastWithRoom, Reached, loadWith, pointsAt, PointWith, PointsByRank, LimitedAt}
 
 module _ (cs ds ts : List ℕ) (p : ℕ) where
   -- of the rows from place p to before place j, one limits the row at place p: each has room for the smallest raise, those before it for more, and it for no more
@@ -139,10 +139,10 @@ module _ (cs ds ts : List ℕ) (p : ℕ) where
 
     module _ {smallest row point j : ℕ} (done : Searched smallest row point j) where
       -- where the rows from place j on have room for the smallest raise too, the limiting row is found
-      found-limits : (NotYet smallest j → ⊥) → ((q : ℕ) → j ≤ q → q < length cs → PointWith cs ds ts p q smallest) → LimitsAt cs ds ts p row point
-      found-limits not-first rest = ⊎-elim ends (λ n. absurd (not-first n)) (done .found)
+      found-limited : (NotYet smallest j → ⊥) → ((q : ℕ) → j ≤ q → q < length cs → PointWith cs ds ts p q smallest) → LimitedAt cs ds ts p row point
+      found-limited not-first rest = ⊎-elim ends (λ n. absurd (not-first n)) (done .found)
         where
-          ends : Found smallest row point j → LimitsAt cs ds ts p row point
+          ends : Found smallest row point j → LimitedAt cs ds ts p row point
           ends f = record {
             allowance = smallest;
             from = f .from;
@@ -154,11 +154,11 @@ module _ (cs ds ts : List ℕ) (p : ℕ) where
           }
 
       -- after the last row
-      pub search-ends : length cs ≤ j → LimitsAt cs ds ts p row point
-      search-ends past = found-limits (λ n. omega (arith, n .at-first)) (λ q h l. absurd (omega arith))
+      pub search-ends : length cs ≤ j → LimitedAt cs ds ts p row point
+      search-ends past = found-limited (λ n. omega (arith, n .at-first)) (λ q h l. absurd (omega arith))
 
       -- and where the smallest raise is nothing, for which every row has room
-      pub search-left : smallest ≡ 0 → LimitsAt cs ds ts p row point
+      pub search-left : smallest ≡ 0 → LimitedAt cs ds ts p row point
       search-left none =
-          found-limits (λ n. omega (arith, n .past-deadline, rows .by-deadline p inside))
+          found-limited (λ n. omega (arith, n .past-deadline, rows .by-deadline p inside))
           (λ q h l. subst (PointWith cs ds ts p q) (sym none) (rows .have-points p q l))

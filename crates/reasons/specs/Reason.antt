@@ -39,10 +39,11 @@ pub record Reached (load : ℕ → ℕ → ℕ) (points : List ℕ) (enough beyo
   pub no-room : beyond ≤ enough → (q : ℕ) → List·Memᴰ q points → load beyond q ≤ q → ⊥
   pub least : beyond ≤ enough → (a : ℕ) → beyond ≡ suc a → (q : ℕ) → List·Memᴰ q points → load a q ≤ q → point ≤ q
 
--- the load of the row at place j with a more in the row at place p, and its points
+-- the load of the row at place j with a more in the row at place p
 abbrev pub loadWith : List ℕ → List ℕ → ℕ → ℕ → ℕ → ℕ → ℕ
 loadWith cs ts p j = raisedLoad (getD cs j 0) (take j cs) (take j ts) (countedBy ts p j)
 
+-- the points of the row at place j
 abbrev pub pointsAt : List ℕ → List ℕ → ℕ → List ℕ
 pointsAt ds ts j = walkFrom (take j ts) (getD ds j 0)
 
@@ -63,7 +64,7 @@ pub record PointsByRank (cs ds ts : List ℕ) : Type 0 where
 
 -- the row at place `row` limits the one at place p at a point: it and the rows behind p have points with room for the allowance, those before it for one more, it for no more, and
 -- the point is its least with room for the allowance
-pub record LimitsAt (cs ds ts : List ℕ) (p row point : ℕ) : Type 0 where
+pub record LimitedAt (cs ds ts : List ℕ) (p row point : ℕ) : Type 0 where
   pub allowance : ℕ
   pub from : p ≤ row
   pub inside : row < length cs

@@ -6,11 +6,11 @@ ghost use lib.ListN.{length, getD, take};
 ghost use Rattle.theory.specs.Row.{AllWithin};
 ghost use Rattle.theory.specs.Response.{AllMeet};
 ghost use Rattle.theory.specs.Lists.{Shaped, rowsOf};
-ghost use Rattle.theory.specs.Explanation.{Limits};
+ghost use Rattle.theory.specs.Explanation.{LimitedBy};
 ghost use Rattle.demands.specs.Levels.{Small};
 ghost use Rattle.climbs.specs.Ranking.{rankingBy};
 ghost use Rattle.raises.specs.Raise.{raisedLoad};
-ghost use Rattle.reasons.specs.Reason.{walkFrom, IsNextPoint, IsBeyond, Reached, PointsByRank, LimitsAt};
+ghost use Rattle.reasons.specs.Reason.{walkFrom, IsNextPoint, IsBeyond, Reached, PointsByRank, LimitedAt};
 
 // How far the points of a row's walk reach: one more than the largest raise that any of them has room for, and the first with room for that.
 struct Reach {
@@ -92,7 +92,7 @@ fn reach_of(limit: u32, own: u32, c: &[u32], t: &[u32], period: u32, enough: u32
 fn limit_at(c: &[u32], d: &[u32], t: &[u32], p: usize) -> Limit
     requires { ⌜ PointsByRank (now c) (now d) (now t) ⌝ }
     requires { ⌜ p < length (now c) ⌝ }
-    ensures { λ r. ⌜ LimitsAt (now (c .entry)) (now (d .entry)) (now (t .entry)) p (r .row) (r .point) ⌝ }
+    ensures { λ r. ⌜ LimitedAt (now (c .entry)) (now (d .entry)) (now (t .entry)) p (r .row) (r .point) ⌝ }
 {
     let mut smallest = d[p] - c[p] + 1;
     let mut row = p;
@@ -133,7 +133,7 @@ pub fn limit_of(c: &[u32], d: &[u32], t: &[u32], order: &[usize; 24], i: usize) 
     requires { ⌜ Shaped (now c) (now d) (now t) × AllWithin (rowsOf (now c) (now d) (now t)) ⌝ }
     requires { ⌜ take (length (now d)) (now order) ≡ rankingBy (now d) ⌝ }
     requires { ⌜ AllMeet (rowsOf (now c) (now d) (now t)) × (i < length (now c)) ⌝ }
-    ensures { λ r. ⌜ Limits (rowsOf (now (c .entry)) (now (d .entry)) (now (t .entry))) i (r .row) (r .point) ⌝ }
+    ensures { λ r. ⌜ LimitedBy (rowsOf (now (c .entry)) (now (d .entry)) (now (t .entry))) i (r .row) (r .point) ⌝ }
     ensures { λ r. ⌜ r .row < length (now (c .entry)) ⌝ }
 {
     let n = c.len();

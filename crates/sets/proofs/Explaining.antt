@@ -11,7 +11,7 @@ use Rattle.answers.specs.declared.Answer.the-variants.{Accepted, RowNotInSet}
 use Rattle.answers.specs.Answer.{numberOf, returnedBy}
 use Rattle.theory.specs.Returned.{returned}
 use Rattle.theory.specs.Lists.{rowsOf}
-use Rattle.theory.specs.Explanation.{Limits, Explained}
+use Rattle.theory.specs.Explanation.{LimitedBy, Explained}
 use Rattle.theory.specs.Explanation as promise
 use Rattle.climbs.proofs.InLists.{in-rows}
 use Rattle.responses.proofs.Meeting.{all-in-time-meet}
@@ -49,7 +49,7 @@ module _ (cs ds ts : List ℕ) (row : ℕ) where
       late-unexplained (stage.in-time o l t) r = absurd (r refl)
 
       -- every row meets, and one limits
-      pub limit-explained : {order response : List ℕ} → Timed cs ds ts order response → (k p : ℕ) → Limits (rowsOf cs ds ts) (row - 1) k p → Explained cs ds ts row (returned 0 0) (k + 1) p
+      pub limit-explained : {order response : List ℕ} → Timed cs ds ts order response → (k p : ℕ) → LimitedBy (rowsOf cs ds ts) (row - 1) k p → Explained cs ds ts row (returned 0 0) (k + 1) p
       limit-explained {order} {response} timed k p l =
           rw (add-one k)
           (promise.limited (row - 1) k p (passed .shaped) (passed .within) its-place up-to (all-in-time-meet cs ds ts response (passed .shaped) (λ h inside. timed .in-time h (in-rows cs ds ts (passed .shaped) inside))) l)

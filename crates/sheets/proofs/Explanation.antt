@@ -16,7 +16,7 @@ use Rattle.theory.specs.Row.{Row, AllWithin}
 use Rattle.theory.specs.Response.{AllMeet, FirstMiss, onTime}
 use Rattle.theory.specs.Allowance.{raised}
 use Rattle.theory.specs.Points.{points, quotient, bound, allowance, IsBound}
-use Rattle.theory.specs.Explanation.{Limits, Explained, row-not-in-set, row-misses, limited}
+use Rattle.theory.specs.Explanation.{LimitedBy, Explained, row-not-in-set, row-misses, limited}
 use Rattle.theory.proofs.Tests.{and-both, and-first, and-second}
 use Rattle.theory.proofs.Verdict.{AllSteady, within-steady}
 use Rattle.theory.proofs.Bound.{bound-is, bound-unique}
@@ -66,7 +66,7 @@ module _ (rows : List Row) (t : T (isSet rows)) where
   limited-holds zero limiting p s = absurd s
   limited-holds (suc i) zero p s = absurd s
   limited-holds (suc i) (suc k) p s =
-      limited i k p (set-shaped rows t) (carried rows t AllWithin (set-within rows t)) refl (as-many inside) (carried rows t AllMeet all) (carried rows t (λ rows. Limits rows i k p) limits)
+      limited i k p (set-shaped rows t) (carried rows t AllWithin (set-within rows t)) refl (as-many inside) (carried rows t AllMeet all) (carried rows t (λ rows. LimitedBy rows i k p) limits)
     where
       late : Bool
       late = missesFirst (raised rows i (suc (allowance rows i))) k
@@ -86,7 +86,7 @@ module _ (rows : List Row) (t : T (isSet rows)) where
       reason : T (late && first)
       reason = and-second (ltb i (length rows)) (late && first) after
 
-      limits : Limits rows i k p
+      limits : LimitedBy rows i k p
       limits = record {
         allowance = allowance rows i;
         is-allowance = allowance-is rows steady i inside all;

@@ -20,7 +20,7 @@ use Rattle.theory.specs.Response.{load, IsResponse, Meets, AllMeet, Firs
 use Rattle.theory.specs.Allowance.{longer, raised, IsAllowance}
 use Rattle.theory.specs.Points.{points, times, quotient, slack, touches, bound, IsBound}
 use Rattle.theory.specs.Lists.{Shaped, rowsOf}
-use Rattle.theory.specs.Explanation.{Limits, Explained, rows-out-of-range, row-breaks-limits, row-not-in-set, row-misses, limited}
+use Rattle.theory.specs.Explanation.{LimitedBy, Explained, rows-out-of-range, row-breaks-limits, row-not-in-set, row-misses, limited}
 use Rattle.theory.proofs.Each.{T-true, T-false}
 use Rattle.theory.proofs.First.{first-holds, first-among, first-unique}
 use Rattle.theory.proofs.Walk.{walk-positive}
@@ -43,8 +43,8 @@ exactly a (pos n) h no-more = ap pos (go (leb (suc a) n) refl)
 exactly a (negsuc n) h no-more = absurd (h .le)
 
 -- one row and one point limit a row
-pub limits-unique : (rows : List Row) (i k h p q : ℕ) → Limits rows i k p → Limits rows i h q → (k ≡ h) × (p ≡ q)
-limits-unique rows i k h p q l m = (same-row, same-point)
+pub limited-unique : (rows : List Row) (i k h p q : ℕ) → LimitedBy rows i k p → LimitedBy rows i h q → (k ≡ h) × (p ≡ q)
+limited-unique rows i k h p q l m = (same-row, same-point)
   where
     same-row : k ≡ h
     same-row =
@@ -93,9 +93,9 @@ module _ (rows : List Row) (steady : AllSteady rows) (i : ℕ) (inside : i < len
     pub done-by-point : (R : ℕ) → IsResponse (raised rows i a) k R → R ≤ p
 
   -- THE REASON NAMED IS THE TRUE ONE
-  pub limits-truly : (k p : ℕ) (l : Limits rows i k p) → TrueReason k p (l .allowance)
+  pub limited-truly : (k p : ℕ) (l : LimitedBy rows i k p) → TrueReason k p (l .allowance)
   unfolding points
-  limits-truly k p l = record {
+  limited-truly k p l = record {
     all-meet-with-it = l .is-allowance .all-meet;
     misses-with-one-more = l .first-to-miss .misses;
     above-meet-with-one-more = λ h in-set t.
@@ -151,9 +151,9 @@ module _ (rows : List Row) (steady : AllSteady rows) (i : ℕ) (inside : i < len
     pub has-room : load rows k p + a * times rows k i p ≤ p
     pub least : (q : ℕ) → List·Memᴰ q (points rows k) → load rows k q + a * times rows k i q ≤ q → p ≤ q
 
-  pub found-limits : (k p a : ℕ) → FoundByPoints k p a → Limits rows i k p
+  pub found-limited : (k p a : ℕ) → FoundByPoints k p a → LimitedBy rows i k p
   unfolding points
-  found-limits k p a found = record {
+  found-limited k p a found = record {
     allowance = a;
     is-allowance = trial-allowance rows i inside a steady all (λ h there t. point-for-meets a h there t (found .each-has-room h there t)) no-larger;
     first-to-miss = first;
@@ -220,10 +220,10 @@ module _ (cs ds ts : List ℕ) (row : ℕ) where
   outside i (inl none) e h = absurd (omega arith)
   outside i (inr above) e h = absurd (omega arith)
 
-  both-limited : (i i′ k k′ p p′ : ℕ) → row ≡ suc i → row ≡ suc i′ → Limits set i k p → Limits set i′ k′ p′ → SameExplanation (returned 0 0) (returned 0 0) (suc k) (suc k′) p p′
+  both-limited : (i i′ k k′ p p′ : ℕ) → row ≡ suc i → row ≡ suc i′ → LimitedBy set i k p → LimitedBy set i′ k′ p′ → SameExplanation (returned 0 0) (returned 0 0) (suc k) (suc k′) p p′
   both-limited i i′ k k′ p p′ e e′ l l′ =
       let same-place : i ≡ i′ = omega arith in
-      let same = limits-unique set i′ k k′ p p′ (subst (λ (x : ℕ). Limits set x k p) same-place l) l′ in
+      let same = limited-unique set i′ k k′ p p′ (subst (λ (x : ℕ). LimitedBy set x k p) same-place l) l′ in
       record { same-answer = refl; same-row = ap suc (same .0); same-point = same .1 }
 
   -- THE PROMISE DETERMINES THE EXPLANATION

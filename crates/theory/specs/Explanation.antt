@@ -12,8 +12,8 @@ use Rattle.theory.specs.Allowance.{raised, IsAllowance}
 use Rattle.theory.specs.Points.{points, quotient, IsBound}
 use Rattle.theory.specs.Lists.{Shaped, rowsOf}
 
--- row k limits row i at point p: it is the first in rank that misses when the allowance is raised by one, and p is the first in its walk with its greatest quotient
-pub record Limits (rows : List Row) (i k p : ℕ) : Type 0 where
+-- row i is limited by row k at point p: row k is the first in rank that misses when the allowance is raised by one, and p is the first in its walk with its greatest quotient
+pub record LimitedBy (rows : List Row) (i k p : ℕ) : Type 0 where
   pub allowance : ℕ
   pub is-allowance : IsAllowance rows i allowance
   pub first-to-miss : FirstMiss (raised rows i (suc allowance)) k
@@ -44,5 +44,5 @@ pub data Explained (cs ds ts : List ℕ) (row : ℕ) : Returned → ℕ → ℕ 
       → row ≡ suc i
       → i < length cs
       → AllMeet (rowsOf cs ds ts)
-      → Limits (rowsOf cs ds ts) i k p
+      → LimitedBy (rowsOf cs ds ts) i k p
       → Explained cs ds ts row (returned 0 0) (suc k) p

@@ -8,11 +8,11 @@ use lib.ListN.{length, getD, take}
 use lib.Seq.{length-take-le, getD-take}
 use Rattle.theory.specs.Gather.{All}
 use Rattle.theory.specs.Lists.{rowsOf}
-use Rattle.theory.specs.Explanation.{Limits}
+use Rattle.theory.specs.Explanation.{LimitedBy}
 use Rattle.climbs.proofs.OrderByRank.{ranked-long, places-of-rows, row-among-places}
 use Rattle.climbs.proofs.InLists.{ranked, ranked-in-lists, order-ranked}
 use Rattle.trials.proofs.ByRank.{RowsByRank, rows-gathered}
-use Rattle.reasons.proofs.ByRank.{points-by-rank, limits-of-rank}
+use Rattle.reasons.proofs.ByRank.{points-by-rank, limited-of-rank}
 use Rattle.reasons.proofs.limit_of.Statement.{statement}
 use Rattle.reasons.proofs.limit_of.Tie as tie
 
@@ -110,9 +110,9 @@ returns c =
     sym (order-ranked cs ds ts shaped (start .args .order .now) (start .pre .1 .0) place (place-inside (c .before .before)))
     ∙ sym (getD-take (length cs) (start .args .order .now) place 0 (place-inside (c .before .before)))
     ∙ c .before .before .place-of .ensures .1 in (
-      subst (λ (i : ℕ). Limits (rowsOf cs ds ts) i (getD (start .args .order .now) row 0) (c .before .limit-at .result .point)) is-row
-          (subst (λ (k : ℕ). Limits (rowsOf cs ds ts) (ranked cs ds ts shaped place) k (c .before .limit-at .result .point)) ranked-row
-          (limits-of-rank cs ds ts shaped (start .pre .0 .1) (start .pre .1 .1 .0) (fronts (c .before .before .before .before .before .before)) place (place-inside (c .before .before)) row (c .before .limit-at .result .point) (c .before .limit-at .ensures))),
+      subst (λ (i : ℕ). LimitedBy (rowsOf cs ds ts) i (getD (start .args .order .now) row 0) (c .before .limit-at .result .point)) is-row
+          (subst (λ (k : ℕ). LimitedBy (rowsOf cs ds ts) (ranked cs ds ts shaped place) k (c .before .limit-at .result .point)) ranked-row
+          (limited-of-rank cs ds ts shaped (start .pre .0 .1) (start .pre .1 .1 .0) (fronts (c .before .before .before .before .before .before)) place (place-inside (c .before .before)) row (c .before .limit-at .result .point) (c .before .limit-at .ensures))),
       subst (λ (k : ℕ). k < length cs) ranked-row (ranked-in-lists cs ds ts shaped row (limiting-inside (c .before))),
     )
 
