@@ -17,13 +17,12 @@ use Rattle.theory.proofs.Walk.{walk-by-periods, walk-within, walk-positive}
 use Rattle.theory.proofs.Signed.{slack-left}
 use Rattle.theory.proofs.Verdict.{within-steady, on-time-by-points}
 use Rattle.theory.proofs.Bound.{PointFor}
-use Rattle.theory.proofs.Explanation.{FoundByPoints, found-limited}
+use Rattle.theory.proofs.Explanation.{found-limited}
 use Rattle.climbs.specs.Ranking.{rankingBy, rivalsIn}
 use Rattle.climbs.proofs.Load.{rivalEntries}
 use Rattle.climbs.proofs.InLists.{in-lists, ranked, above-before, Ranked, rank-of}
 use Rattle.climbs.proofs.AtRank.{before-are-rivals, load-at-rank}
 use Rattle.points.proofs.Walked.{points-of-rivals}
-use Rattle.raises.specs.Raise.{raisedLoad}
 use Rattle.raises.proofs.RaisedRow.{Counted}
 use Rattle.trials.specs.Trial.{countedBy}
 use Rattle.trials.proofs.ByRank.{RowsByRank, byRank, length-by-rank, in-order, entry, limits, in-set, small-by-rank, counted, touched-from, in-rows-at}

@@ -1,6 +1,6 @@
 -- The row that limits another and the point at which it does (document 02, request 1), by points, on lists of C, D and T by rank.
 use mathlib.Core.Path.{_≡_}
-use Prim.Native.Nat.{ℕ, suc, _+_, _≤_, _<_}
+use Prim.Native.Nat.{ℕ, suc, _≤_, _<_}
 use mathlib.Core.List.{List, List·Memᴰ}
 use lib.ListN.{length, getD, take}
 use Rattle.theory.specs.Points.{walk}

@@ -3,7 +3,7 @@ use mathlib.Core.Path.{refl}
 use Prim.Native.Nat.{ℕ}
 use mathlib.Core.List.{List}
 use Rattle.theory.specs.Returned.{Returned}
-use Rattle.theory.proofs.Explanation.{SameExplanation, explained-unique}
+use Rattle.theory.proofs.Explained.{SameExplanation, explained-unique}
 use Rattle.records.specs.ListBytes.{numbersIn}
 use Rattle.records.specs.ExplanationBytes.{BytesExplained, lengths-not-fours, explained-as-numbers}
 

@@ -1,13 +1,13 @@
 -- The explanation, from one stage to the next: refused by the checks, for a number that is no row's, for a row that misses, or the limiting row and the point.
-use mathlib.Core.Path.{_≡_, refl, sym, subst}
+use mathlib.Core.Path.{_≡_, refl}
 use Prim.Native.Nat.{ℕ, suc, _+_, _-_, _≤_, _<_}
 use mathlib.Core.Logic.{_⊎_, ⊎-elim}
 use mathlib.Core.List.{List}
 use native.Mathlib.Omega.{arith}
 use native.Mathlib.Numerals.{add-one}
-use lib.ListN.{length, take}
+use lib.ListN.{length}
 use Rattle.answers.specs.declared.Answer.{Answer}
-use Rattle.answers.specs.declared.Answer.the-variants.{Accepted, RowNotInSet}
+use Rattle.answers.specs.declared.Answer.the-variants.{RowNotInSet}
 use Rattle.answers.specs.Answer.{numberOf, returnedBy}
 use Rattle.theory.specs.Returned.{returned}
 use Rattle.theory.specs.Lists.{rowsOf}

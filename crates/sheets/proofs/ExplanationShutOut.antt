@@ -16,7 +16,7 @@ use Rattle.theory.specs.Allowance.{raised}
 use Rattle.theory.specs.Points.{lastMultiple, walk, points, slack, floorDiv, times, quotient, bound, pointAllowance, allowance, IsBound}
 use Rattle.theory.specs.Explanation.{Explained}
 use Rattle.theory.proofs.Response.{outcome-right}
-use Rattle.theory.proofs.Explanation.{SameExplanation, explained-unique}
+use Rattle.theory.proofs.Explained.{SameExplanation, explained-unique}
 use Rattle.sheets.specs.Sheets.{limited-by, executions, deadlines, periods, row, theFour}
 use Rattle.sheets.proofs.Test.{isSet, missesFirst, isFirst, greatestAt, limitedAt, passes}
 use Rattle.sheets.proofs.Law.{each-place}

@@ -1,46 +1,34 @@
 -- Document 02, request 1: exactly one row and one point answer the question, and they are the true reason. With the allowance more all rows meet, and the named row responds by
 -- the named point; with one more than that the named row misses and every row above it still meets; and its bound, and its quotient at the point, are the allowance itself.
-use mathlib.Core.Path.{_≡_, refl, sym, _∙_, ap, subst}
+use mathlib.Core.Path.{_≡_, refl, sym, subst}
 use Prim.Native.Nat.{ℕ, suc, _+_, _*_, _≤_, _<_}
 use mathlib.Core.Bool.{Bool, true, false}
-use mathlib.Core.Logic.{_↔_, _⊎_, inl, inr}
+use mathlib.Core.Logic.{_↔_}
 use mathlib.Core.List.{List, List·Memᴰ}
 use native.Mathlib.Omega.{arith}
-use native.Mathlib.Nat.{le-antisymm}
 use borrow.Author.Tests.{leb-true, leb-false}
 use lib.Dec.{T, leb}
-use lib.IntN.{ℤ, pos, negsuc}
+use lib.IntN.{ℤ, pos}
 use lib.ListN.{length, length-set}
 use lib.Signed.{_≤ℤ_, ≤ℤ-refl}
-use Rattle.theory.specs.Returned.{Returned, returned}
 use Rattle.theory.specs.Gather.{First}
-use Rattle.theory.specs.Row.{Row, rowAt, AllWithin, FirstBroken}
+use Rattle.theory.specs.Row.{Row, rowAt}
 use Rattle.theory.specs.Rank.{above, levels}
 use Rattle.theory.specs.Response.{load, IsResponse, Meets, AllMeet, FirstMiss}
-use Rattle.theory.specs.Allowance.{longer, raised, IsAllowance}
-use Rattle.theory.specs.Points.{points, times, quotient, slack, touches, bound, IsBound}
-use Rattle.theory.specs.Lists.{Shaped, rowsOf}
-use Rattle.theory.specs.Explanation.{LimitedBy, Explained, rows-out-of-range, row-breaks-limits, row-not-in-set, row-misses, limited}
+use Rattle.theory.specs.Allowance.{longer, raised}
+use Rattle.theory.specs.Points.{points, times, quotient, touches, bound, IsBound}
+use Rattle.theory.specs.Explanation.{LimitedBy}
 use Rattle.theory.proofs.Each.{T-true, T-false}
 use Rattle.theory.proofs.First.{first-holds, first-among, first-unique}
 use Rattle.theory.proofs.Walk.{walk-positive}
 use Rattle.theory.proofs.Ascending.{least-is-first}
-use Rattle.theory.proofs.Signed.{pos-le, le-pos, ≤ℤ-antisymm}
+use Rattle.theory.proofs.Signed.{≤ℤ-antisymm, pos-exactly}
 use Rattle.theory.proofs.Verdict.{AllSteady, RivalsMeet, point-meets, verdict-by-points}
 use Rattle.theory.proofs.Raise.{above-stays, load-of-touched}
 use Rattle.theory.proofs.Bound.{PointFor, quotient-has-room, bound-is, bound-unique, bound-covers}
 use Rattle.theory.proofs.Allowance.{allowance-unique, raised-steady, raised-point, point-for}
-use Rattle.theory.proofs.Trial.{response-below-room, meets-with-less, untouched-meets, touched-decide, trial-allowance}
-use Rattle.theory.proofs.Lists.{first-miss-unique, first-broken-unique, clash, late}
-
--- a whole number that is at least a, and not at least one more, is a
-exactly : (a : ℕ) (z : ℤ) → pos a ≤ℤ z → (pos (suc a) ≤ℤ z → ⊥) → z ≡ pos a
-exactly a (pos n) h no-more = ap pos (go (leb (suc a) n) refl)
-  where
-    go : (b : Bool) → leb (suc a) n ≡ b → n ≡ a
-    go true e = absurd (no-more (pos-le (leb-true (suc a) n e)))
-    go false e = omega (arith, leb-false (suc a) n e, le-pos a n h)
-exactly a (negsuc n) h no-more = absurd (h .le)
+use Rattle.theory.proofs.Trial.{response-below-room, meets-with-less, untouched-meets, trial-allowance}
+use Rattle.theory.proofs.Lists.{first-miss-unique}
 
 -- one row and one point limit a row
 pub limited-unique : (rows : List Row) (i k h p q : ℕ) → LimitedBy rows i k p → LimitedBy rows i h q → (k ≡ h) × (p ≡ q)
@@ -79,7 +67,7 @@ module _ (rows : List Row) (steady : AllSteady rows) (i : ℕ) (inside : i < len
   bound-exactly : (a k : ℕ) → k < length rows → PointFor rows k i a → (PointFor rows k i (suc a) → ⊥) → IsBound rows k i (pos a)
   bound-exactly a k in-set has-room no-more =
       subst (IsBound rows k i)
-      (exactly a (bound rows k i) (bound-covers rows steady k i in-set inside a (bound rows k i) (bound-is rows k i) .1 has-room) (λ h. no-more (bound-covers rows steady k i in-set inside (suc a) (bound rows k i) (bound-is rows k i) .0 h)))
+      (pos-exactly a (bound rows k i) (bound-covers rows steady k i in-set inside a (bound rows k i) (bound-is rows k i) .1 has-room) (λ h. no-more (bound-covers rows steady k i in-set inside (suc a) (bound rows k i) (bound-is rows k i) .0 h)))
       (bound-is rows k i)
 
   -- the true reason why the allowance a of row i is not larger
@@ -198,58 +186,3 @@ module _ (rows : List Row) (steady : AllSteady rows) (i : ℕ) (inside : i < len
         where
           covers : (q : ℕ) → List·Memᴰ q (points rows k) → (pos a ≤ℤ quotient rows k i q) ↔ (load rows k q + a * times rows k i q ≤ q)
           covers = quotient-has-room rows steady k i (found .in-set) inside a
-
--- two explanations that are the same: what is returned, the limiting row and the point
-pub record SameExplanation (answer other : Returned) (row other-row point other-point : ℕ) : Type 0 where
-  pub same-answer : answer ≡ other
-  pub same-row : row ≡ other-row
-  pub same-point : point ≡ other-point
-
-module _ (cs ds ts : List ℕ) (row : ℕ) where
-  abbrev Result : Returned → ℕ → ℕ → Type 0
-  Result = Explained cs ds ts row
-
-  abbrev set : List Row
-  set = rowsOf cs ds ts
-
-  refused-alike : {a b : Returned} → a ≡ b → SameExplanation a b 0 0 0 0
-  refused-alike e = record { same-answer = e; same-row = refl; same-point = refl }
-
-  -- a row is in the set or it is not
-  outside : {X : Type 0} (i : ℕ) → (row ≡ 0) ⊎ (length cs < row) → row ≡ suc i → i < length cs → X
-  outside i (inl none) e h = absurd (omega arith)
-  outside i (inr above) e h = absurd (omega arith)
-
-  both-limited : (i i′ k k′ p p′ : ℕ) → row ≡ suc i → row ≡ suc i′ → LimitedBy set i k p → LimitedBy set i′ k′ p′ → SameExplanation (returned 0 0) (returned 0 0) (suc k) (suc k′) p p′
-  both-limited i i′ k k′ p p′ e e′ l l′ =
-      let same-place : i ≡ i′ = omega arith in
-      let same = limited-unique set i′ k k′ p p′ (subst (λ (x : ℕ). LimitedBy set x k p) same-place l) l′ in
-      record { same-answer = refl; same-row = ap suc (same .0); same-point = same .1 }
-
-  -- THE PROMISE DETERMINES THE EXPLANATION
-  pub explained-unique : {a b : Returned} {k h p q : ℕ} → Result a k p → Result b h q → SameExplanation a b k h p q
-  explained-unique (rows-out-of-range n) (rows-out-of-range n′) = refused-alike refl
-  explained-unique (rows-out-of-range n) (row-breaks-limits k′ s′ f′) = absurd (n s′)
-  explained-unique (rows-out-of-range n) (row-not-in-set s′ w′ o′) = absurd (n s′)
-  explained-unique (rows-out-of-range n) (row-misses i′ k′ s′ w′ e′ h′ m′) = absurd (n s′)
-  explained-unique (rows-out-of-range n) (limited i′ k′ p′ s′ w′ e′ h′ all′ l′) = absurd (n s′)
-  explained-unique (row-breaks-limits k s f) (rows-out-of-range n′) = absurd (n′ s)
-  explained-unique (row-breaks-limits k s f) (row-breaks-limits k′ s′ f′) = refused-alike (ap (λ (x : ℕ). returned 4 (suc x)) (first-broken-unique set k k′ f f′))
-  explained-unique (row-breaks-limits k s f) (row-not-in-set s′ w′ o′) = clash set k f w′
-  explained-unique (row-breaks-limits k s f) (row-misses i′ k′ s′ w′ e′ h′ m′) = clash set k f w′
-  explained-unique (row-breaks-limits k s f) (limited i′ k′ p′ s′ w′ e′ h′ all′ l′) = clash set k f w′
-  explained-unique (row-not-in-set s w o) (rows-out-of-range n′) = absurd (n′ s)
-  explained-unique (row-not-in-set s w o) (row-breaks-limits k′ s′ f′) = clash set k′ f′ w
-  explained-unique (row-not-in-set s w o) (row-not-in-set s′ w′ o′) = refused-alike refl
-  explained-unique (row-not-in-set s w o) (row-misses i′ k′ s′ w′ e′ h′ m′) = outside i′ o e′ h′
-  explained-unique (row-not-in-set s w o) (limited i′ k′ p′ s′ w′ e′ h′ all′ l′) = outside i′ o e′ h′
-  explained-unique (row-misses i k s w e h m) (rows-out-of-range n′) = absurd (n′ s)
-  explained-unique (row-misses i k s w e h m) (row-breaks-limits k′ s′ f′) = clash set k′ f′ w
-  explained-unique (row-misses i k s w e h m) (row-not-in-set s′ w′ o′) = outside i o′ e h
-  explained-unique (row-misses i k s w e h m) (row-misses i′ k′ s′ w′ e′ h′ m′) = refused-alike (ap (λ (x : ℕ). returned 8 (suc x)) (first-miss-unique set k k′ m m′))
-  explained-unique (row-misses i k s w e h m) (limited i′ k′ p′ s′ w′ e′ h′ all′ l′) = late set k m all′
-  explained-unique (limited i k p s w e h all l) (rows-out-of-range n′) = absurd (n′ s)
-  explained-unique (limited i k p s w e h all l) (row-breaks-limits k′ s′ f′) = clash set k′ f′ w
-  explained-unique (limited i k p s w e h all l) (row-not-in-set s′ w′ o′) = outside i o′ e h
-  explained-unique (limited i k p s w e h all l) (row-misses i′ k′ s′ w′ e′ h′ m′) = late set k′ m′ all
-  explained-unique (limited i k p s w e h all l) (limited i′ k′ p′ s′ w′ e′ h′ all′ l′) = both-limited i i′ k k′ p p′ e e′ l l′

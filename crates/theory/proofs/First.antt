@@ -1,7 +1,7 @@
 -- The first of a list of which something holds: it is one of the list, it is unique, and what is the first of which one thing holds is the first of which a narrower holds.
 use mathlib.Core.Path.{_≡_, refl, sym, _∙_, subst}
 use Prim.Native.Nat.{ℕ}
-use mathlib.Core.Logic.{_⊎_, inl, inr}
+use mathlib.Core.Logic.{inl, inr}
 use mathlib.Core.List.{List, [], _∷_, _++_, List·Memᴰ, List·Memᴰ·head, List·Memᴰ·tail}
 use Rattle.theory.specs.Gather.{All, First}
 

@@ -37,3 +37,4 @@ pub mod Utilisation
 pub mod DemandThree
 pub mod Lists
 pub mod Explanation
+pub mod Explained

@@ -5,8 +5,8 @@ use mathlib.Core.Bool.{Bool, true, false, cond}
 use mathlib.Core.Logic.{_↔_}
 use native.Mathlib.Omega.{arith}
 use native.Mathlib.Nat.{le-trans, le-antisymm, le-div-iff-mul-le, div-lt-iff-lt-mul, suc-mul, le-of-suc-le-suc}
-use borrow.Author.Tests.{ltb-true, ltb-false, leb-false, lt-ltb, le-ltb}
-use lib.Dec.{T, ltb, leb→le, le→leb}
+use borrow.Author.Tests.{ltb-true, ltb-false, leb-true, leb-false, lt-ltb, le-ltb}
+use lib.Dec.{T, leb, ltb, leb→le, le→leb}
 use lib.IntN.{ℤ, pos, negsuc, negℤ, _-ℤ_, _*ℤ_}
 use lib.Signed.{leZ, _≤ℤ_}
 use Rattle.theory.specs.Points.{floorDiv}
@@ -53,6 +53,15 @@ pos-le {a} {b} h = record { le = le→leb a b h }
 
 pub le-pos : (a b : ℕ) → pos a ≤ℤ pos b → a ≤ b
 le-pos a b h = leb→le a b (h .le)
+
+-- a whole number that is at least a, and not at least one more, is a
+pub pos-exactly : (a : ℕ) (z : ℤ) → pos a ≤ℤ z → (pos (suc a) ≤ℤ z → ⊥) → z ≡ pos a
+pos-exactly a (pos n) h no-more = ap pos (go (leb (suc a) n) refl)
+  where
+    go : (b : Bool) → leb (suc a) n ≡ b → n ≡ a
+    go true e = absurd (no-more (pos-le (leb-true (suc a) n e)))
+    go false e = omega (arith, leb-false (suc a) n e, le-pos a n h)
+pos-exactly a (negsuc n) h no-more = absurd (h .le)
 
 -- ---- the quotient is rounded towards minus infinity
 

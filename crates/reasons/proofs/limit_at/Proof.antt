@@ -1,8 +1,8 @@
 -- `limit_at` asks the rows from the row itself down. The loop's invariant: the limiting row among those asked. The measure is what is left of the rows.
-use mathlib.Core.Path.{_≡_, sym}
-use Prim.Native.Nat.{ℕ, _-_, _≤_, _<_}
+use mathlib.Core.Path.{sym}
+use Prim.Native.Nat.{_-_, _≤_, _<_}
 use native.Mathlib.Omega.{arith}
-use lib.ListN.{length, getD, take}
+use lib.ListN.{length, getD}
 use lib.Seq.{length-take-le}
 use Rattle.trials.proofs.Search.{small-before}
 use Rattle.reasons.specs.Reason.{Reached, loadWith, pointsAt}

@@ -1,5 +1,5 @@
 -- `limit_of` gathers the rows by rank and asks for the limiting row there.
-use mathlib.Core.Path.{_≡_, sym, ap, _∙_, subst}
+use mathlib.Core.Path.{_≡_, sym, _∙_, subst}
 use Prim.Native.Nat.{ℕ, _≤_, _<_}
 use mathlib.Core.List.{List}
 use native.Mathlib.Omega.{arith}

@@ -1,10 +1,8 @@
 -- `next_point` goes down the levels. The loop's invariant: the walk of the level from the time at hand has the next point. The measure is the level.
-use mathlib.Core.Path.{_≡_, refl, sym, ap, subst}
-use Prim.Native.Nat.{ℕ, suc, _-_, _<_}
+use mathlib.Core.Path.{subst}
+use Prim.Native.Nat.{ℕ, suc, _-_}
 use native.Mathlib.Omega.{arith}
 use borrow.Author.Needs.{needs}
-use lib.ListN.{getD}
-use Rattle.theory.specs.Points.{lastMultiple}
 use Rattle.reasons.proofs.Next.{Descended, descent-begins, descent-to-multiple, descent-at-time, descent-ends}
 use Rattle.reasons.proofs.next_point.Statement.{statement}
 use Rattle.reasons.proofs.next_point.Tie as tie

@@ -1,9 +1,8 @@
 -- `place_of` goes to the row's place. The loop's invariant: the row stands at the place at hand or behind it. The measure is what is left of the order.
-use mathlib.Core.Path.{_≡_, sym, ap, _∙_, subst}
-use Prim.Native.Nat.{ℕ, _+_, _-_, _≤_, _<_}
+use mathlib.Core.Path.{ap, _∙_}
+use Prim.Native.Nat.{ℕ, _-_, _≤_}
 use mathlib.Core.Logic.{⊎-elim}
 use native.Mathlib.Omega.{arith}
-use borrow.Author.Needs.{needs}
 use lib.ListN.{length, getD}
 use Rattle.theory.proofs.At.{StandsIn, stands-in}
 use Rattle.theory.proofs.Tests.{equal-or-not}

@@ -1,9 +1,7 @@
 -- `reach_of` looks at the limit first, and then takes the points as they come up. The loop's invariant: how far those up to the last one reach. The measure is what is left up to the limit.
-use mathlib.Core.Path.{_≡_, refl, sym, ap, subst}
-use Prim.Native.Nat.{ℕ, suc, _-_, _≤_, _<_}
-use mathlib.Core.Logic.{⊎-elim}
+use mathlib.Core.Path.{_≡_}
+use Prim.Native.Nat.{ℕ, _-_, _≤_}
 use native.Mathlib.Omega.{arith}
-use borrow.Author.Needs.{needs}
 use lib.ListN.{length}
 use Rattle.theory.specs.Lists.{rowsOf}
 use Rattle.theory.proofs.Walk.{walk-within, walk-positive}

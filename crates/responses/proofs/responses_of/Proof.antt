@@ -10,7 +10,6 @@ use Rattle.theory.specs.Row.{rowAt}
 use Rattle.theory.specs.Response.{Outcome, load, responds, misses, FirstMiss}
 use Rattle.theory.specs.Climb.{Climbed}
 use Rattle.theory.specs.Lists.{rowsOf, Shaped}
-use Rattle.theory.proofs.Each.{all-map}
 use Rattle.demands.specs.Levels.{loadOf}
 use Rattle.climbs.specs.Climb.{outcomeOf}
 use Rattle.climbs.proofs.Load.{limits-at}
