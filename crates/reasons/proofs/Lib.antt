@@ -2,5 +2,6 @@
 pub mod Next
 pub mod Beyond
 pub mod Reaching
+pub mod Most
 pub mod Limiting
 pub mod ByRank

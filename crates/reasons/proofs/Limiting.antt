@@ -1,21 +1,17 @@
 -- The search for the row that limits the one at place p over the rows by rank, from that row down: what holds after the rows from p to before place j, how it begins, goes on
 -- and ends.
-use mathlib.Core.Path.{_≡_, refl, sym, ap, _∙_, subst}
-use Prim.Native.Nat.{ℕ, suc, _+_, _-_, _*_, _≤_, _<_}
+use mathlib.Core.Path.{_≡_, sym, subst}
+use Prim.Native.Nat.{ℕ, suc, _+_, _-_, _≤_, _<_}
 use mathlib.Core.Logic.{_⊎_, inl, inr, ⊎-elim}
 use mathlib.Core.List.{List}
 use native.Mathlib.Omega.{arith}
-use native.Mathlib.Nat.{le-trans, mul-one}
+use native.Mathlib.Nat.{le-trans}
 use lib.ListN.{length, getD, take}
-use Rattle.theory.specs.Response.{ceil}
-use Rattle.theory.specs.Lists.{rowsOf}
-use Rattle.theory.proofs.Ceil.{ceil-one}
 use Rattle.theory.proofs.Tests.{equal-or-not, order-cases}
-use Rattle.theory.proofs.Walk.{walk-within, walk-positive}
 use Rattle.raises.proofs.Raised.{raise-mono}
 use Rattle.trials.specs.Trial.{countedBy}
 use Rattle.trials.proofs.Search.{counts-itself-once, counts-by-period}
-use Rattle.reasons.specs.Reason.{LeastWithRoom, Reached, loadWith, pointsAt, PointWith, PointsByRank, LimitedAt}
+use Rattle.reasons.specs.Reason.{LeastWithRoom, Reached, loadWith, pointsAt, PointWith, PointsByRank, IsMost, LimitedAt}
 
 module _ (cs ds ts : List ℕ) (p : ℕ) where
   -- of the rows from place p to before place j, one limits the row at place p: each has room for the smallest raise, those before it for more, and it for no more
@@ -27,10 +23,12 @@ module _ (cs ds ts : List ℕ) (p : ℕ) where
     pub no-more : PointWith cs ds ts p row (suc smallest) → ⊥
     pub least-point : LeastWithRoom (loadWith cs ts p row smallest) (pointsAt ds ts row) point
 
-  -- before the first, the row itself: no raise from this one on takes it to no more than its deadline
+  -- none does yet: each has room for more than is in question
   pub record NotYet (smallest j : ℕ) : Type 0 where
-    pub at-first : j ≡ p
-    pub past-deadline : getD ds p 0 < getD cs p 0 + smallest
+    pub most : ℕ
+    pub is-most : IsMost cs ds ts p most
+    pub above-it : smallest ≡ suc most
+    pub have-more : (q : ℕ) → p ≤ q → q < j → PointWith cs ds ts p q smallest
 
   -- after the rows from place p to before place j
   pub record Searched (smallest row point j : ℕ) : Type 0 where
@@ -48,13 +46,13 @@ module _ (cs ds ts : List ℕ) (p : ℕ) where
   }
 
   module _ (rows : PointsByRank cs ds ts) (inside : p < length cs) where
-    -- it begins one above the row's distance to its deadline
-    pub search-begins : (row point : ℕ) → Searched (getD ds p 0 - getD cs p 0 + 1) row point p
-    search-begins row point = record {
+    -- it begins one above the largest raise in question
+    pub search-begins : {most : ℕ} → IsMost cs ds ts p most → (row point : ℕ) → Searched (most + 1) row point p
+    search-begins {most} is-most row point = record {
       from = omega arith;
       places = omega arith;
-      by-deadline = omega (arith, rows .by-deadline p inside, rows .runs p inside);
-      found = inr (record { at-first = refl; past-deadline = omega (arith, rows .by-deadline p inside) });
+      by-deadline = omega (arith, is-most .own-distance, rows .runs p inside);
+      found = inr (record { most = most; is-most = is-most; above-it = omega arith; have-more = λ q h l. absurd (omega arith) });
     }
 
     -- no raise in question passes the period for which a row counts it
@@ -64,15 +62,6 @@ module _ (cs ds ts : List ℕ) (p : ℕ) where
         go : (j ≡ p) ⊎ (j ≡ p → ⊥) → (smallest ≤ countedBy ts p j) × (1 ≤ countedBy ts p j) × (countedBy ts p j ≤ 1_000_000)
         go (inl e) = rw (e, counts-itself-once ts p) (omega (arith, rows .by-period p inside, rows .small .by-million p inside), omega arith, omega arith)
         go (inr d) = rw (counts-by-period ts p j d) (omega (arith, rows .by-period p inside), rows .small .period-positive p inside, rows .small .by-million p inside)
-
-    -- the row itself has no room for more than its distance to its deadline
-    own-room : (a : ℕ) → PointWith cs ds ts p p a → getD cs p 0 + a ≤ getD ds p 0
-    own-room a q =
-        let by-deadline : q .point ≤ getD ds p 0 = walk-within (rowsOf (take p ts) (take p ts) (take p ts)) (length (take p ts)) (getD ds p 0) (q .point) (q .among-points) in
-        let from-one : 1 ≤ q .point = walk-positive (rowsOf (take p ts) (take p ts) (take p ts)) (length (take p ts)) (getD ds p 0) (q .point) (omega (arith, rows .runs p inside, rows .by-deadline p inside)) (q .among-points) in
-        let once : a * ceil (q .point) (countedBy ts p p) ≡ a =
-        ap (λ (m : ℕ). a * ceil (q .point) m) (counts-itself-once ts p) ∙ ap (λ (n : ℕ). a * n) (ceil-one (q .point) from-one (omega (arith, rows .by-period p inside, rows .small .by-million p inside))) ∙ mul-one a in
-        omega (arith, q .room, once, by-deadline)
 
     module _ {smallest row point j : ℕ} (so-far : Searched smallest row point j) (more : j < length cs) {beyond next : ℕ} (reached : Reached (loadWith cs ts p j) (pointsAt ds ts j) smallest beyond next) where
       -- each row has a point, so something is reached
@@ -92,7 +81,7 @@ module _ (cs ds ts : List ℕ) (p : ℕ) where
 
       -- the rows before have room for the smallest raise so far
       earlier : (q : ℕ) → p ≤ q → q < j → PointWith cs ds ts p q smallest
-      earlier q h l = ⊎-elim (λ f. f .each-has-room q h l) (λ n. absurd (omega (arith, n .at-first))) (so-far .found)
+      earlier q h l = ⊎-elim (λ f. f .each-has-room q h l) (λ n. n .have-more q h l) (so-far .found)
 
       -- the row has no room for it: it limits
       pub search-lowers : beyond ≤ smallest → Searched (beyond - 1) j next (j + 1)
@@ -118,24 +107,27 @@ module _ (cs ds ts : List ℕ) (p : ℕ) where
         from = omega (arith, so-far .from);
         places = omega arith;
         by-deadline = so-far .by-deadline;
-        found = ⊎-elim (λ f. inl (still f)) (λ n. absurd (not-the-first n)) (so-far .found);
+        found = ⊎-elim (λ f. inl (still f)) (λ n. inr (not-yet n)) (so-far .found);
       }
         where
           has-room : PointWith cs ds ts p j smallest
           has-room = room-for-less j smallest (beyond - 1) (omega arith) at-beyond
 
+          one-more : ((q : ℕ) → p ≤ q → q < j → PointWith cs ds ts p q smallest) → (q : ℕ) → p ≤ q → q < j + 1 → PointWith cs ds ts p q smallest
+          one-more before q h l = ⊎-elim (λ e. subst (λ (x : ℕ). PointWith cs ds ts p x smallest) (sym e) has-room) (λ d. before q h (omega arith)) (equal-or-not q j)
+
           still : Found smallest row point j → Found smallest row point (j + 1)
           still f = record {
             from = f .from;
             before = omega (arith, f .before);
-            each-has-room = λ q h l. ⊎-elim (λ e. subst (λ (x : ℕ). PointWith cs ds ts p x smallest) (sym e) has-room) (λ d. f .each-has-room q h (omega arith)) (equal-or-not q j);
+            each-has-room = one-more (f .each-has-room);
             above-have-more = f .above-have-more;
             no-more = f .no-more;
             least-point = f .least-point;
           }
 
-          not-the-first : NotYet smallest j → ⊥
-          not-the-first n = omega (arith, n .past-deadline, own-room smallest (subst (λ (x : ℕ). PointWith cs ds ts p x smallest) (n .at-first) has-room))
+          not-yet : NotYet smallest j → NotYet smallest (j + 1)
+          not-yet n = record { most = n .most; is-most = n .is-most; above-it = n .above-it; have-more = one-more (n .have-more) }
 
     module _ {smallest row point j : ℕ} (done : Searched smallest row point j) where
       -- where the rows from place j on have room for the smallest raise too, the limiting row is found
@@ -155,10 +147,11 @@ module _ (cs ds ts : List ℕ) (p : ℕ) where
 
       -- after the last row
       pub search-ends : length cs ≤ j → LimitedAt cs ds ts p row point
-      search-ends past = found-limited (λ n. omega (arith, n .at-first)) (λ q h l. absurd (omega arith))
+      search-ends past =
+          found-limited (λ n. n .is-most .no-larger (λ q h l. subst (PointWith cs ds ts p q) (n .above-it) (n .have-more q h (omega arith)))) (λ q h l. absurd (omega arith))
 
       -- and where the smallest raise is nothing, for which every row has room
       pub search-left : smallest ≡ 0 → LimitedAt cs ds ts p row point
       search-left none =
-          found-limited (λ n. omega (arith, n .past-deadline, rows .by-deadline p inside))
+          found-limited (λ n. omega (arith, n .above-it))
           (λ q h l. subst (PointWith cs ds ts p q) (sym none) (rows .have-points p q l))

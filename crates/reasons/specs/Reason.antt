@@ -1,6 +1,6 @@
 -- The row that limits another and the point at which it does (document 02, request 1), by points, on lists of C, D and T by rank.
 use mathlib.Core.Path.{_≡_}
-use Prim.Native.Nat.{ℕ, suc, _≤_, _<_}
+use Prim.Native.Nat.{ℕ, suc, _+_, _≤_, _<_}
 use mathlib.Core.List.{List, List·Memᴰ}
 use lib.ListN.{length, getD, take}
 use Rattle.theory.specs.Points.{walk}
@@ -61,6 +61,11 @@ pub record PointsByRank (cs ds ts : List ℕ) : Type 0 where
   pub by-deadline : (j : ℕ) → j < length cs → getD cs j 0 ≤ getD ds j 0
   pub by-period : (j : ℕ) → j < length cs → getD ds j 0 ≤ getD ts j 0
   pub have-points : (p j : ℕ) → j < length cs → PointWith cs ds ts p j 0
+
+-- no raise above `most` is in question for the row at place p: it is within the row's own distance to its deadline, and not every row from p on has a point with room for more
+pub record IsMost (cs ds ts : List ℕ) (p most : ℕ) : Type 0 where
+  pub own-distance : getD cs p 0 + most ≤ getD ds p 0
+  pub no-larger : ((q : ℕ) → p ≤ q → q < length cs → PointWith cs ds ts p q (suc most)) → ⊥
 
 -- the row at place `row` limits the one at place p at a point: it and the rows behind p have points with room for the allowance, those before it for one more, it for no more, and
 -- the point is its least with room for the allowance

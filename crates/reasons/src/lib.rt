@@ -4,13 +4,15 @@ ghost use Prim.Native.Nat.{ℕ, _≤_, _<_};
 ghost use mathlib.Core.List.{List·Memᴰ};
 ghost use lib.ListN.{length, getD, take};
 ghost use Rattle.theory.specs.Row.{AllWithin};
-ghost use Rattle.theory.specs.Response.{AllMeet};
 ghost use Rattle.theory.specs.Lists.{Shaped, rowsOf};
 ghost use Rattle.theory.specs.Explanation.{LimitedBy};
 ghost use Rattle.demands.specs.Levels.{Small};
 ghost use Rattle.climbs.specs.Ranking.{rankingBy};
 ghost use Rattle.raises.specs.Raise.{raisedLoad};
-ghost use Rattle.reasons.specs.Reason.{walkFrom, IsNextPoint, IsBeyond, Reached, PointsByRank, LimitedAt};
+ghost use Rattle.responses.specs.Verdict.{RespondsInTime};
+ghost use Rattle.trials.specs.Trial.{InTimeByRank};
+ghost use Rattle.reasons.specs.Reason.{walkFrom, IsNextPoint, IsBeyond, Reached, PointsByRank, IsMost, LimitedAt};
+use raises::Raise;
 
 // How far the points of a row's walk reach: one more than the largest raise that any of them has room for, and the first with room for that.
 struct Reach {
@@ -87,14 +89,27 @@ fn reach_of(limit: u32, own: u32, c: &[u32], t: &[u32], period: u32, enough: u32
     Reach { beyond, point }
 }
 
+// A raise of the row at place p above which none is in question, among rows by rank: its allowance where short climbs tell it, and else its own distance to its
+// deadline. The nearer it is, the sooner the walks end.
+fn largest_in_question(c: &[u32], d: &[u32], t: &[u32], response: &[u32], p: usize) -> u32
+    requires { ⌜ PointsByRank (now c) (now d) (now t) × InTimeByRank (now c) (now d) (now t) (now response) ⌝ }
+    requires { ⌜ p < length (now c) ⌝ }
+    ensures { λ r. ⌜ IsMost (now (c .entry)) (now (d .entry)) (now (t .entry)) p r ⌝ }
+{
+    match trials::allowance_at(c, d, t, response, p, 300) {
+        Raise::Largest(a) => a,
+        Raise::LeftOff => d[p] - c[p],
+    }
+}
+
 // The row that limits the one at place p, among rows by rank. Only those from p on are touched, and they are asked from the highest down: a row whose points have room for the smallest
-// raise so far is not the reason. The row itself comes first, and it has room for no more than its distance to its deadline.
-fn limit_at(c: &[u32], d: &[u32], t: &[u32], p: usize) -> Limit
-    requires { ⌜ PointsByRank (now c) (now d) (now t) ⌝ }
+// raise so far is not the reason.
+fn limit_at(c: &[u32], d: &[u32], t: &[u32], response: &[u32], p: usize) -> Limit
+    requires { ⌜ PointsByRank (now c) (now d) (now t) × InTimeByRank (now c) (now d) (now t) (now response) ⌝ }
     requires { ⌜ p < length (now c) ⌝ }
     ensures { λ r. ⌜ LimitedAt (now (c .entry)) (now (d .entry)) (now (t .entry)) p (r .row) (r .point) ⌝ }
 {
-    let mut smallest = d[p] - c[p] + 1;
+    let mut smallest = largest_in_question(c, d, t, response, p) + 1;
     let mut row = p;
     let mut point = 0;
     let mut next = p;
@@ -129,10 +144,18 @@ fn place_of(order: &[usize], i: usize) -> usize
 }
 
 // The row that limits row i of a set that is on time, and the point at which it does.
-pub fn limit_of(c: &[u32], d: &[u32], t: &[u32], order: &[usize; 24], i: usize) -> Limit
+pub fn limit_of(
+    c: &[u32],
+    d: &[u32],
+    t: &[u32],
+    order: &[usize; 24],
+    response: &[u32; 24],
+    i: usize,
+) -> Limit
     requires { ⌜ Shaped (now c) (now d) (now t) × AllWithin (rowsOf (now c) (now d) (now t)) ⌝ }
     requires { ⌜ take (length (now d)) (now order) ≡ rankingBy (now d) ⌝ }
-    requires { ⌜ AllMeet (rowsOf (now c) (now d) (now t)) × (i < length (now c)) ⌝ }
+    requires { ⌜ ((k : ℕ) → k < length (now c) → RespondsInTime (rowsOf (now c) (now d) (now t)) (now response) k) ⌝ }
+    requires { ⌜ i < length (now c) ⌝ }
     ensures { λ r. ⌜ LimitedBy (rowsOf (now (c .entry)) (now (d .entry)) (now (t .entry))) i (r .row) (r .point) ⌝ }
     ensures { λ r. ⌜ r .row < length (now (c .entry)) ⌝ }
 {
@@ -142,7 +165,9 @@ pub fn limit_of(c: &[u32], d: &[u32], t: &[u32], order: &[usize; 24], i: usize) 
     let cs = climbs::gather(c, by_rank);
     let ds = climbs::gather(d, by_rank);
     let ts = climbs::gather(t, by_rank);
-    let limit = limit_at(&cs[..n], &ds[..n], &ts[..n], place_of(by_rank, i));
+    let rs = climbs::gather(response, by_rank);
+    let p = place_of(by_rank, i);
+    let limit = limit_at(&cs[..n], &ds[..n], &ts[..n], &rs[..n], p);
     let place = limit.row;
     let row = order[place];
     Limit {

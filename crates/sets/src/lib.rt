@@ -171,7 +171,8 @@ pub fn explain(c: &[u32], d: &[u32], t: &[u32], row: u32) -> Explanation
         return unexplained(answer);
     }
     let order = begun.order;
-    let limit = reasons::limit_of(c, d, t, &order, i);
+    let response = begun.response;
+    let limit = reasons::limit_of(c, d, t, &order, &response, i);
     Explanation {
         answer: Answer::Accepted,
         limiting: limit.row as u32 + 1,

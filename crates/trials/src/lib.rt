@@ -29,7 +29,14 @@ pub fn counted_by(t: &[u32], p: usize, j: usize) -> u32
 }
 
 // The allowance of the row at place p, among rows by rank that all respond in time: only the rows from p on are touched, and the lowest is tried first.
-fn allowance_at(c: &[u32], d: &[u32], t: &[u32], response: &[u32], p: usize, rounds: u32) -> Raise
+pub fn allowance_at(
+    c: &[u32],
+    d: &[u32],
+    t: &[u32],
+    response: &[u32],
+    p: usize,
+    rounds: u32,
+) -> Raise
     requires { ⌜ InTimeByRank (now c) (now d) (now t) (now response) ⌝ }
     requires { ⌜ p < length (now c) ⌝ }
     ensures { λ r. ⌜ IsAllowanceAt (now (c .entry)) (now (d .entry)) (now (t .entry)) p rounds r ⌝ }

@@ -11,50 +11,38 @@ use Rattle.reasons.proofs.limit_at.Statement.{statement}
 use Rattle.reasons.proofs.limit_at.Tie as tie
 
 abbrev Inv-loop : tie.InvT-loop
-Inv-loop c d t p smallest₀ row₀ point₀ next₀ smallest row point next = Searched c d t p smallest row point next
+Inv-loop c d t response p smallest₀ row₀ point₀ next₀ smallest row point next = Searched c d t p smallest row point next
 
 abbrev μ-loop : tie.MeasureT-loop
-μ-loop c d t p smallest₀ row₀ point₀ next₀ smallest row point next = length c - next
+μ-loop c d t response p smallest₀ row₀ point₀ next₀ smallest row point next = length c - next
 
-mul-smallest : tie.Need-mul-smallest Inv-loop μ-loop
-mul-smallest c = let start = c .before .before .before in omega (arith, start .pre .0 .small .few, start .pre .1)
-
-shared-slice-read-smallest : tie.Need-shared-slice-read-smallest Inv-loop μ-loop
-shared-slice-read-smallest c = let start = c .before .before .before .before in omega (arith, start .pre .0 .as-many-deadlines, start .pre .1)
-
-mul-smallest-2 : tie.Need-mul-smallest-2 Inv-loop μ-loop
-mul-smallest-2 c = let start = c .before .before .before .before in omega (arith, start .pre .0 .small .few, start .pre .1)
-
-shared-slice-read-smallest-2 : tie.Need-shared-slice-read-smallest-2 Inv-loop μ-loop
-shared-slice-read-smallest-2 c = c .before .before .before .before .before .pre .1
-
-sub-smallest : tie.Need-sub-smallest Inv-loop μ-loop
-sub-smallest c = let start = c .before .before .before .before .before in start .pre .0 .by-deadline (start .args .p) (start .pre .1)
+largest-in-question-requires : tie.Need-largest-in-question-requires Inv-loop μ-loop
+largest-in-question-requires c κs = c .before .before .before .before .pre
 
 add-smallest : tie.Need-add-smallest Inv-loop μ-loop
 add-smallest c =
     let start = c .before .before .before .before .before in
-    omega (arith, start .pre .0 .by-period (start .args .p) (start .pre .1), start .pre .0 .small .by-million (start .args .p) (start .pre .1))
+    omega (arith, c .largest-in-question .ensures .own-distance, start .pre .0 .0 .by-period (start .args .p) (start .pre .1), start .pre .0 .0 .small .by-million (start .args .p) (start .pre .1))
 
 loop-holds : tie.Need-loop-holds Inv-loop μ-loop
 loop-holds c =
     let start = c .before .before .before .before .before in
-    search-begins (start .args .c .now) (start .args .d .now) (start .args .t .now) (start .args .p) (start .pre .0) (start .pre .1) (start .args .p) 0
+    search-begins (start .args .c .now) (start .args .d .now) (start .args .t .now) (start .args .p) (start .pre .0 .0) (start .pre .1) (c .largest-in-question .ensures) (start .args .p) 0
 
 add-next : tie.Need-add-next Inv-loop μ-loop
-add-next c = omega (arith, c .before .before .before .before .before .before .before .before .pre .0 .small .few)
+add-next c = omega (arith, c .before .before .before .before .before .before .before .before .pre .0 .0 .small .few)
 
 counted-by-requires : tie.Need-counted-by-requires Inv-loop μ-loop
-counted-by-requires c κs = let start = c .before .before .before .before .before .before .before .before in omega (arith, start .pre .0 .small .as-many, start .pre .1)
+counted-by-requires c κs = let start = c .before .before .before .before .before .before .before .before in omega (arith, start .pre .0 .0 .small .as-many, start .pre .1)
 
 mul-reach-of : tie.Need-mul-reach-of Inv-loop μ-loop
-mul-reach-of c = omega (arith, c .before .before .before .before .before .before .before .before .before .pre .0 .small .few)
+mul-reach-of c = omega (arith, c .before .before .before .before .before .before .before .before .before .pre .0 .0 .small .few)
 
 shared-slice-read-reach-of : tie.Need-shared-slice-read-reach-of Inv-loop μ-loop
-shared-slice-read-reach-of c = omega (arith, c .before .before .before .before .before .before .before .before .before .before .pre .0 .as-many-deadlines)
+shared-slice-read-reach-of c = omega (arith, c .before .before .before .before .before .before .before .before .before .before .pre .0 .0 .as-many-deadlines)
 
 mul-reach-of-2 : tie.Need-mul-reach-of-2 Inv-loop μ-loop
-mul-reach-of-2 c = omega (arith, c .before .before .before .before .before .before .before .before .before .before .pre .0 .small .few)
+mul-reach-of-2 c = omega (arith, c .before .before .before .before .before .before .before .before .before .before .pre .0 .0 .small .few)
 
 shared-slice-read-reach-of-2 : tie.Need-shared-slice-read-reach-of-2 Inv-loop μ-loop
 shared-slice-read-reach-of-2 c = omega arith
@@ -63,12 +51,12 @@ slice-aggregate-reach-of : tie.Need-slice-aggregate-reach-of Inv-loop μ-loop
 slice-aggregate-reach-of c = sym (length-take-le _ (c .before .before .before .before .before .before .before .before .before .before .before .before .args .c .now) (omega arith))
 
 slice-aggregate-reach-of-2 : tie.Need-slice-aggregate-reach-of-2 Inv-loop μ-loop
-slice-aggregate-reach-of-2 c = let start = c .before .before .before .before .before .before .before .before .before .before .before .before .before in sym (length-take-le _ (start .args .t .now) (omega (arith, start .pre .0 .small .as-many)))
+slice-aggregate-reach-of-2 c = let start = c .before .before .before .before .before .before .before .before .before .before .before .before .before in sym (length-take-le _ (start .args .t .now) (omega (arith, start .pre .0 .0 .small .as-many)))
 
 reach-of-requires : tie.Need-reach-of-requires Inv-loop μ-loop
 reach-of-requires c κs =
     let start = c .before .before .before .before .before .before .before .before .before .before .before .before .before in
-    let rows = start .pre .0 in
+    let rows = start .pre .0 .0 in
     let turn = c .before .before .before .before .before .before .before .loop in
     let j = turn .next in
     let in-set : j < length (start .args .c .now) = omega arith in
@@ -83,10 +71,10 @@ reached : (c : tie.After-reach-of Inv-loop μ-loop)
     Reached (loadWith (row .c .now) (row .t .now) (row .p) (turn .next)) (pointsAt (row .d .now) (row .t .now) (turn .next)) (turn .smallest) (c .reach-of .result .beyond) (c .reach-of .result .point)
 reached c = rw (c .before .before .before .before .before .counted-by .ensures) at (c .reach-of .ensures)
 
-sub-smallest-2 : tie.Need-sub-smallest-2 Inv-loop μ-loop
-sub-smallest-2 c =
+sub-smallest : tie.Need-sub-smallest Inv-loop μ-loop
+sub-smallest c =
     let start = c .before .before .before .before .before .before .before .before .before .before .before .before .before .before .before .before .before in
-    something-reached _ _ _ _ (start .pre .0) (start .pre .1) (c .before .before .before .before .before .before .before .before .before .before .before .loop .inv) (omega arith) (reached (c .before .before .before))
+    something-reached _ _ _ _ (start .pre .0 .0) (start .pre .1) (c .before .before .before .before .before .before .before .before .before .before .before .loop .inv) (omega arith) (reached (c .before .before .before))
 
 loop-less : tie.Need-loop-less Inv-loop μ-loop
 loop-less c = omega arith
@@ -94,7 +82,7 @@ loop-less c = omega arith
 loop-again : tie.Need-loop-again Inv-loop μ-loop
 loop-again c =
     let start = c .before .before .before .before .before .before .before .before .before .before .before .before .before .before .before .before .before in
-    search-lowers _ _ _ _ (start .pre .0) (start .pre .1) (c .before .before .before .before .before .before .before .before .before .before .before .loop .inv) (omega arith) (reached (c .before .before .before)) (omega arith)
+    search-lowers _ _ _ _ (start .pre .0 .0) (start .pre .1) (c .before .before .before .before .before .before .before .before .before .before .before .loop .inv) (omega arith) (reached (c .before .before .before)) (omega arith)
 
 loop-less-2 : tie.Need-loop-less-2 Inv-loop μ-loop
 loop-less-2 c = omega arith
@@ -102,13 +90,13 @@ loop-less-2 c = omega arith
 loop-again-2 : tie.Need-loop-again-2 Inv-loop μ-loop
 loop-again-2 c =
     let start = c .before .before .before .before .before .before .before .before .before .before .before .before .before .before .before .before in
-    search-stays _ _ _ _ (start .pre .0) (start .pre .1) (c .before .before .before .before .before .before .before .before .before .before .loop .inv) (omega arith) (reached (c .before .before)) (omega arith)
+    search-stays _ _ _ _ (start .pre .0 .0) (start .pre .1) (c .before .before .before .before .before .before .before .before .before .before .loop .inv) (omega arith) (reached (c .before .before)) (omega arith)
 
 returns : tie.Need-returns Inv-loop μ-loop
-returns c = let start = c .before .before .before .before .before .before .before in search-ends _ _ _ _ (start .pre .0) (start .pre .1) (c .before .loop .inv) (omega arith)
+returns c = let start = c .before .before .before .before .before .before .before in search-ends _ _ _ _ (start .pre .0 .0) (start .pre .1) (c .before .loop .inv) (omega arith)
 
 returns-2 : tie.Need-returns-2 Inv-loop μ-loop
-returns-2 c = let start = c .before .before .before .before .before .before .before .before in search-left _ _ _ _ (start .pre .0) (start .pre .1) (c .before .before .loop .inv) (omega arith)
+returns-2 c = let start = c .before .before .before .before .before .before .before .before in search-left _ _ _ _ (start .pre .0 .0) (start .pre .1) (c .before .before .loop .inv) (omega arith)
 
 pub limit-at-spec : {M : Type 1} → statement M
 limit-at-spec =
@@ -116,11 +104,7 @@ limit-at-spec =
     (tie.spec
     Inv-loop
     μ-loop
-    mul-smallest
-    shared-slice-read-smallest
-    mul-smallest-2
-    shared-slice-read-smallest-2
-    sub-smallest
+    largest-in-question-requires
     add-smallest
     loop-holds
     add-next
@@ -132,7 +116,7 @@ limit-at-spec =
     slice-aggregate-reach-of
     slice-aggregate-reach-of-2
     reach-of-requires
-    sub-smallest-2
+    sub-smallest
     loop-less
     loop-again
     loop-less-2

@@ -6,7 +6,6 @@ use native.Mathlib.Omega.{arith}
 use borrow.Author.Needs.{needs}
 use lib.ListN.{length}
 use Rattle.climbs.proofs.InLists.{in-rows}
-use Rattle.responses.proofs.Meeting.{all-in-time-meet}
 use Rattle.sets.proofs.Stages.{Passed, Timed, checks-accept, checks-pass, all-timed}
 use Rattle.sets.proofs.Explaining.{with-neither, lists-refused, no-such-row, late-unexplained, limit-explained}
 use Rattle.sets.proofs.explain.Statement.{statement}
@@ -71,25 +70,24 @@ timed c = all-timed (c .before .before .respond .ensures) (sym (c .before .numbe
 
 limit-of-requires : tie.Need-limit-of-requires
 limit-of-requires c κs =
-    let args = c .before .before .before .before .before .before .before .before .before .before .before .before .before .args in
-    let before = passed (c .before .before .before .before .before .before .before) in
-    let all = timed (c .before .before) in
-    ((before .shaped, before .within), (all .ranked, (all-in-time-meet (args .c .now) (args .d .now) (args .t .now) (c .before .before .before .before .respond .result .response) (before .shaped) (λ h inside. all .in-time h (in-rows _ _ _ (before .shaped) inside)), omega arith)))
+    let before = passed (c .before .before .before .before .before .before .before .before .before) in
+    let all = timed (c .before .before .before .before) in
+    ((before .shaped, before .within), (all .ranked, (λ k inside. all .in-time k (in-rows _ _ _ (before .shaped) inside), omega arith)))
 
 -- the limiting row is one of at most 24
 limiting : (c : tie.After-limit-of) → c .limit-of .result .row < 24
-limiting c = omega (arith, c .limit-of .ensures .1, passed (c .before .before .before .before .before .before .before .before) .shaped .no-25th)
+limiting c = omega (arith, c .limit-of .ensures .1, passed (c .before .before .before .before .before .before .before .before .before .before) .shaped .no-25th)
 
-cast-t12 : tie.Need-cast-t12
-cast-t12 c = omega (arith, limiting (c .before))
+cast-t13 : tie.Need-cast-t13
+cast-t13 c = omega (arith, limiting (c .before))
 
-add-t19 : tie.Need-add-t19
-add-t19 c = omega (arith, limiting (c .before))
+add-t21 : tie.Need-add-t21
+add-t21 c = omega (arith, limiting (c .before))
 
 returns-5 : tie.Need-returns-5
 returns-5 c =
-    let args = c .before .before .before .before .before .before .before .before .before .before .before .before .before .before .before .args in
-    limit-explained (args .c .now) (args .d .now) (args .t .now) (args .row) (passed (c .before .before .before .before .before .before .before .before .before)) (omega arith) (omega arith) (timed (c .before .before .before .before)) (c .before .limit-of .result .row) (c .before .limit-of .result .point) (c .before .limit-of .ensures .0)
+    let args = c .before .before .before .before .before .before .before .before .before .before .before .before .before .before .before .before .before .args in
+    limit-explained (args .c .now) (args .d .now) (args .t .now) (args .row) (passed (c .before .before .before .before .before .before .before .before .before .before .before)) (omega arith) (omega arith) (timed (c .before .before .before .before .before .before)) (c .before .limit-of .result .row) (c .before .limit-of .result .point) (c .before .limit-of .ensures .0)
 
 pub explain-spec : {M : Type 1} → statement M
 explain-spec =
@@ -109,6 +107,6 @@ explain-spec =
     unexplained-requires-4
     returns-4
     limit-of-requires
-    cast-t12
-    add-t19
+    cast-t13
+    add-t21
     returns-5)
