@@ -69,26 +69,36 @@ static double time_run(const struct measured *measured, const struct input *inpu
     return (double)(clock() - start) * 1000000 / CLOCKS_PER_SEC;
 }
 
-/* Measures several on an input: the best of so many runs of each in turn, of one where a run takes long. */
-static void measure_in_turn(struct measured *measured, unsigned many, const struct input *input, int runs)
+/* Finds how many calls make a run that is long enough to be timed. */
+static void find_calls(struct measured *measured, const struct input *input)
+{
+    measured->best = 1e300;
+    measured->calls = 1;
+    while (time_run(measured, input) < SHORT_RUN)
+        measured->calls *= 2;
+}
+
+/* Times a run of each; the time of all. */
+static double time_each(struct measured *measured, unsigned many, const struct input *input)
 {
     double all = 0;
 
     for (unsigned n = 0; n < many; n++) {
-        measured[n].best = 1e300;
-        measured[n].calls = 1;
-        while (time_run(&measured[n], input) < SHORT_RUN)
-            measured[n].calls *= 2;
-    }
-    for (int run = 0; run < runs && all <= LONG_RUN; run++) {
-        all = 0;
-        for (unsigned n = 0; n < many; n++) {
-            double time = time_run(&measured[n], input);
+        double time = time_run(&measured[n], input);
 
-            measured[n].best = fmin(measured[n].best, time / (double)measured[n].calls);
-            all += time;
-        }
+        measured[n].best = fmin(measured[n].best, time / (double)measured[n].calls);
+        all += time;
     }
+    return all;
+}
+
+/* Measures several on an input: the best of so many runs of each in turn, of one where a run takes long. */
+static void measure_in_turn(struct measured *measured, unsigned many, const struct input *input, int runs)
+{
+    for (unsigned n = 0; n < many; n++)
+        find_calls(&measured[n], input);
+    while (runs-- > 0 && time_each(measured, many, input) <= LONG_RUN)
+        continue;
 }
 
 /* What a call costs in both programs. */
@@ -352,7 +362,8 @@ static void why_random(bool deadline_is_period, double share, const char *name)
     why_line(&rows, true, name);
 }
 
-/* Prints the why service beside the second program's, and beside three calls of the point service on the same rows. */
+/* Prints the why service beside the second program's, and beside three calls of the point service on the same rows, which is
+ * what it may take. */
 static void print_whys(void)
 {
     printf("\nThe why service, microseconds a call; and three calls of the product's point service on the same rows, "

@@ -127,7 +127,7 @@ void call_why(why_service *service, const struct lists *lists, struct called *ca
 
 /* The row that limits the row asked for: the one that a set service says is late with one tick more than the allowance,
  * or the row itself where its C would be above its D. */
-uint32_t limiting_row(list_service *set, const struct lists *lists, const struct called *accepted)
+uint32_t limiting_row_by_set(list_service *set, const struct lists *lists, const struct called *accepted)
 {
     size_t at = 4 * (size_t)(lists->row - 1);
     struct lists raised = *lists;

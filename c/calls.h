@@ -34,7 +34,7 @@ void call_lists(list_service *service, const struct lists *lists, struct called 
 void call_why(why_service *service, const struct lists *lists, struct called *called);
 
 /* The row that limits the row asked for, by a set service and what it left of lists that it accepts. */
-uint32_t limiting_row(list_service *set, const struct lists *lists, const struct called *accepted);
+uint32_t limiting_row_by_set(list_service *set, const struct lists *lists, const struct called *accepted);
 
 /* What a call left. */
 bool same_answer(struct second_answer one, struct second_answer other);

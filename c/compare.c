@@ -372,7 +372,7 @@ static bool compare_limit(const struct lists *lists)
     call_why(product_program.why, lists, &ours);
     theirs = ours;
     theirs.answer = set.answer;
-    theirs.limited_by = limiting_row(second_program.set, lists, &set);
+    theirs.limited_by = limiting_row_by_set(second_program.set, lists, &set);
     against_lists("why, the second program's set", &ours, &theirs, lists);
     return rows_above(lists, theirs.limited_by) >= WALKED_ROWS;
 }

@@ -146,7 +146,7 @@ static bool print_why(const struct certificate *certificate, unsigned row)
     gather_core(certificate, figures[0], &core);
     why = hibalunduk_why(core.c, core.len, core.d, core.len, core.t, core.len, place_on_core(&core, row));
     if (why.number != 0) {
-        printf("row %u on core %u: why differs\n", row, figures[0]);
+        printf("row %u on core %u: why refused %u row %u\n", row, figures[0], (unsigned)why.number, (unsigned)why.row);
         return false;
     }
     printf("row %u on core %u has an allowance of %u: "
@@ -155,7 +155,7 @@ static bool print_why(const struct certificate *certificate, unsigned row)
     return true;
 }
 
-/* Prints for each row which row would be late with one tick more; false when the service does not agree. */
+/* Prints for each row which row would be late with one tick more; false when the why service refuses one. */
 static bool print_whys(const struct certificate *certificate)
 {
     bool all = true;

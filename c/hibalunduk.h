@@ -130,7 +130,8 @@ struct hibalunduk_why {
  * Refusals, in this order: 3 and 4 as in the set service; 10 when `row` is 0 or above the number of rows; 8. Never 1, 2,
  * 5, 6 or 7.
  *
- * Time: microseconds for a few rows, below a millisecond for 24; no more than the point service takes on the same rows.
+ * Time: below a microsecond for a few rows, below a millisecond for 24; on each list of c/benchmark no more than a call of
+ * the point service.
  */
 struct hibalunduk_why hibalunduk_why(const uint8_t *c, size_t c_len,
                                      const uint8_t *d, size_t d_len,

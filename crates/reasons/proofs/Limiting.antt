@@ -131,8 +131,8 @@ module _ (cs ds ts : List ℕ) (p : ℕ) where
 
     module _ {smallest row point j : ℕ} (done : Searched smallest row point j) where
       -- where the rows from place j on have room for the smallest raise too, the limiting row is found
-      found-limited : (NotYet smallest j → ⊥) → ((q : ℕ) → j ≤ q → q < length cs → PointWith cs ds ts p q smallest) → LimitedAt cs ds ts p row point
-      found-limited not-first rest = ⊎-elim ends (λ n. absurd (not-first n)) (done .found)
+      limit-is-found : (NotYet smallest j → ⊥) → ((q : ℕ) → j ≤ q → q < length cs → PointWith cs ds ts p q smallest) → LimitedAt cs ds ts p row point
+      limit-is-found not-first rest = ⊎-elim ends (λ n. absurd (not-first n)) (done .found)
         where
           ends : Found smallest row point j → LimitedAt cs ds ts p row point
           ends f = record {
@@ -148,10 +148,10 @@ module _ (cs ds ts : List ℕ) (p : ℕ) where
       -- after the last row
       pub search-ends : length cs ≤ j → LimitedAt cs ds ts p row point
       search-ends past =
-          found-limited (λ n. n .is-most .no-larger (λ q h l. subst (PointWith cs ds ts p q) (n .above-it) (n .have-more q h (omega arith)))) (λ q h l. absurd (omega arith))
+          limit-is-found (λ n. n .is-most .no-larger (λ q h l. subst (PointWith cs ds ts p q) (n .above-it) (n .have-more q h (omega arith)))) (λ q h l. absurd (omega arith))
 
       -- and where the smallest raise is nothing, for which every row has room
       pub search-left : smallest ≡ 0 → LimitedAt cs ds ts p row point
       search-left none =
-          found-limited (λ n. omega (arith, n .above-it))
+          limit-is-found (λ n. omega (arith, n .above-it))
           (λ q h l. subst (PointWith cs ds ts p q) (sym none) (rows .have-points p q l))

@@ -14,7 +14,7 @@ ghost use Rattle.trials.specs.Trial.{InTimeByRank};
 ghost use Rattle.reasons.specs.Reason.{walkFrom, IsNextPoint, IsBeyond, Reached, PointsByRank, IsMost, LimitedAt};
 use raises::Raise;
 
-// How far the points of a row's walk reach: one more than the largest raise that any of them has room for, and the first with room for that.
+// How far the points of a row's walk reach: one more than a raise that a point has room for, and that point. The largest and the first, unless one was enough before.
 struct Reach {
     beyond: u32,
     point: u32,
@@ -114,7 +114,7 @@ fn limit_at(c: &[u32], d: &[u32], t: &[u32], response: &[u32], p: usize) -> Limi
     let mut point = 0;
     let mut next = p;
     while next < c.len() {
-        // Every row has room for nothing more.
+        // No row has less room than for a raise of 0.
         if smallest == 0 {
             break;
         }

@@ -40,7 +40,7 @@ fn deliver(
     fill(allowances, &allowed[..n]);
 }
 
-// Where both services stand before the allowances: the answer so far, the rows by rank, and their response times.
+// Where the services on lists stand before the allowances: the answer so far, the rows by rank, and their response times.
 pub struct Begun {
     pub answer: Answer,
     pub order: [usize; 24],

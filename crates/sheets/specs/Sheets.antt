@@ -68,7 +68,7 @@ Holds (order-taken rows order) = taken rows ≡ order
 Holds (listed table text) = Listed allowanceFit (tableBytes table) text
 Holds (table-refused table number row) =
     (report : List ℕ) → reportLength (length (table .rows)) ≤ length report → TableAnswered allowanceFit (tableBytes table) report (returned number row) report
-Holds (limited-by rows row limiting p) = Explained (executions rows) (deadlines rows) (periods rows) row (returned 0 0) limiting p
+Holds (limited-by rows asked limiting p) = Explained (executions rows) (deadlines rows) (periods rows) asked (returned 0 0) limiting p
 Holds (why-refused rows asked number row) = Explained (executions rows) (deadlines rows) (periods rows) asked (returned number row) 0 0
 
 -- a row, written C/D/T in the document
@@ -132,7 +132,8 @@ sheets =
     ∷ limited-by (row 1 1 1 ∷ []) 1 1 1
     -- 1/3/3 is limited by 2/5/5 at 3, the first of two points with the quotient 0
     ∷ limited-by (row 1 3 3 ∷ row 2 5 5 ∷ []) 1 2 3
-    -- refused: row 5 of the four with 10, row 0; row 1 of sheet 8, where row 2 misses, with 8, and a row 3 of it with 10 before that
+    -- refused: rows 0 and 5 of the four with 10, row 0; row 1 of sheet 8, where row 2 misses, with 8, and a row 3 of it with 10 before that
+    ∷ why-refused theFour 0 10 0
     ∷ why-refused theFour 5 10 0
     ∷ why-refused (row 5 10 10 ∷ row 6 14 14 ∷ []) 1 8 2
     ∷ why-refused (row 5 10 10 ∷ row 6 14 14 ∷ []) 3 10 0

@@ -1,4 +1,4 @@
--- The explanation's promise determines what is returned, the limiting row and the point: document 02, request 1.
+-- The explanation's promise determines what is returned, the limiting row and the point, and what it names is the true reason: document 02, request 1.
 use mathlib.Core.Path.{_≡_, refl, ap, subst}
 use Prim.Native.Nat.{ℕ, suc, _<_}
 use mathlib.Core.Logic.{_⊎_, inl, inr}
@@ -8,9 +8,11 @@ use lib.ListN.{length}
 use Rattle.theory.specs.Returned.{Returned, returned}
 use Rattle.theory.specs.Row.{Row}
 use Rattle.theory.specs.Lists.{rowsOf}
-use Rattle.theory.specs.Explanation.{LimitedBy, Explained, rows-out-of-range, row-breaks-limits, row-not-in-set, row-misses, limited}
+use Rattle.theory.specs.Explanation.{LimitedBy, TrueReason, Explained, rows-out-of-range, row-breaks-limits, row-not-in-set, row-misses, limited}
+use Rattle.theory.proofs.RowsOf.{rows-of-length}
+use Rattle.theory.proofs.Verdict.{within-steady}
 use Rattle.theory.proofs.Lists.{first-miss-unique, first-broken-unique, clash, late}
-use Rattle.theory.proofs.Explanation.{limited-unique}
+use Rattle.theory.proofs.Explanation.{limited-unique, limited-truly}
 
 -- two explanations that are the same: what is returned, the limiting row and the point
 pub record SameExplanation (answer other : Returned) (row other-row point other-point : ℕ) : Type 0 where
@@ -66,3 +68,27 @@ module _ (cs ds ts : List ℕ) (row : ℕ) where
   explained-unique (limited i k p s w e h all l) (row-not-in-set s′ w′ o′) = outside i o′ e h
   explained-unique (limited i k p s w e h all l) (row-misses i′ k′ s′ w′ e′ h′ m′) = late set k′ m′ all
   explained-unique (limited i k p s w e h all l) (limited i′ k′ p′ s′ w′ e′ h′ all′ l′) = both-limited i i′ k k′ p p′ e e′ l l′
+
+  -- the row asked about, the row named, and the true reason
+  pub record ExplainedTruly (limiting point : ℕ) : Type 0 where
+    pub place : ℕ
+    pub limiting-place : ℕ
+    pub allowance : ℕ
+    pub asked : row ≡ suc place
+    pub named : limiting ≡ suc limiting-place
+    pub reason : TrueReason set place limiting-place point allowance
+
+  -- AN EXPLANATION THAT IS GIVEN NAMES THE TRUE REASON
+  pub explained-truly : {a : Returned} {limiting point : ℕ} → Result a limiting point → a .number ≡ 0 → ExplainedTruly limiting point
+  explained-truly (rows-out-of-range n) e = absurd (omega arith)
+  explained-truly (row-breaks-limits k s f) e = absurd (omega arith)
+  explained-truly (row-not-in-set s w o) e = absurd (omega arith)
+  explained-truly (row-misses i k s w is h m) e = absurd (omega arith)
+  explained-truly (limited i k p s w is h all l) e = record {
+    place = i;
+    limiting-place = k;
+    allowance = l .allowance;
+    asked = is;
+    named = refl;
+    reason = limited-truly set (within-steady set w) i (omega (arith, rows-of-length cs ds ts (s .as-many-deadlines) (s .as-many-periods))) all k p l;
+  }

@@ -17,7 +17,7 @@ use Rattle.theory.specs.Rank.{above, levels}
 use Rattle.theory.specs.Response.{load, IsResponse, Meets, AllMeet, FirstMiss}
 use Rattle.theory.specs.Allowance.{longer, raised}
 use Rattle.theory.specs.Points.{points, times, quotient, touches, bound, IsBound}
-use Rattle.theory.specs.Explanation.{LimitedBy}
+use Rattle.theory.specs.Explanation.{LimitedBy, TrueReason}
 use Rattle.theory.proofs.Each.{T-true, T-false}
 use Rattle.theory.proofs.First.{first-holds, first-among, first-unique}
 use Rattle.theory.proofs.Walk.{walk-positive}
@@ -35,10 +35,7 @@ pub limited-unique : (rows : List Row) (i k h p q : ℕ) → LimitedBy rows i k 
 limited-unique rows i k h p q l m = (same-row, same-point)
   where
     same-row : k ≡ h
-    same-row =
-        first-miss-unique (raised rows i (suc (m .allowance))) k h
-        (subst (λ (a : ℕ). FirstMiss (raised rows i (suc a)) k) (allowance-unique rows i (l .allowance) (m .allowance) (l .is-allowance) (m .is-allowance)) (l .first-to-miss))
-        (m .first-to-miss)
+    same-row = first-miss-unique _ k h (rw (allowance-unique rows i (l .allowance) (m .allowance) (l .is-allowance) (m .is-allowance)) at (l .first-to-miss)) (m .first-to-miss)
 
     same-point : p ≡ q
     same-point =
@@ -70,18 +67,8 @@ module _ (rows : List Row) (steady : AllSteady rows) (i : ℕ) (inside : i < len
       (pos-exactly a (bound rows k i) (bound-covers rows steady k i in-set inside a (bound rows k i) (bound-is rows k i) .1 has-room) (λ h. no-more (bound-covers rows steady k i in-set inside (suc a) (bound rows k i) (bound-is rows k i) .0 h)))
       (bound-is rows k i)
 
-  -- the true reason why the allowance a of row i is not larger
-  pub record TrueReason (k p a : ℕ) : Type 0 where
-    pub all-meet-with-it : AllMeet (raised rows i a)
-    pub misses-with-one-more : Meets (raised rows i (suc a)) k → ⊥
-    pub above-meet-with-one-more : (h : ℕ) → h < length rows → T (above rows h k) → Meets (raised rows i (suc a)) h
-    pub touched : T (touches rows i k)
-    pub its-bound : IsBound rows k i (pos a)
-    pub its-quotient : quotient rows k i p ≡ pos a
-    pub done-by-point : (R : ℕ) → IsResponse (raised rows i a) k R → R ≤ p
-
   -- THE REASON NAMED IS THE TRUE ONE
-  pub limited-truly : (k p : ℕ) (l : LimitedBy rows i k p) → TrueReason k p (l .allowance)
+  pub limited-truly : (k p : ℕ) (l : LimitedBy rows i k p) → TrueReason rows i k p (l .allowance)
   unfolding points
   limited-truly k p l = record {
     all-meet-with-it = l .is-allowance .all-meet;

@@ -104,7 +104,7 @@ module _ (rows : List Row) (i : ℕ) (inside : i < length rows) where
       })
 
   -- so all rows meet with it where those do that it touches
-  pub touched-decide : (a : ℕ) → AllSteady rows → AllMeet rows
+  touched-decide : (a : ℕ) → AllSteady rows → AllMeet rows
       → ((k : ℕ) → k < length rows → T (touches rows i k) → Meets (raised rows i a) k)
       → (k : ℕ)
       → k < length rows

@@ -134,7 +134,7 @@ module _ (cs ds ts : List ℕ) (shaped : Shaped cs ds ts) (within : AllWithin (r
         go (inr d) = rw (counts-by-period (byRank ds ts) p j d) (counts-before cs ds ts shaped (byRank ds cs) (byRank ds ts) (in-order ds cs) (in-order ds ts) j h p (omega arith))
 
     -- its deadline is the row's
-    pub deadline : (j : ℕ) → j < length cs → rowAt rows (at j) .D ≡ getD (byRank ds ds) j 0
+    deadline : (j : ℕ) → j < length cs → rowAt rows (at j) .D ≡ getD (byRank ds ds) j 0
     deadline j h = deadline-of cs ds ts shaped (at j) ∙ sym (entry ds j h)
 
     -- it has room with a raise exactly where it meets in the raised set
@@ -152,6 +152,7 @@ module _ (cs ds ts : List ℕ) (shaped : Shaped cs ds ts) (within : AllWithin (r
         go (inl same) = omega (arith, ranked-once cs ds ts shaped q p h inside (eqb-true (at q) (at p) (true-of _ same)))
         go (inr above) = let before : p < q = above-before cs ds ts shaped p q inside above in omega arith
 
+    -- the row at a place is one of the set
     pub in-rows-at : (j : ℕ) → j < length cs → at j < length rows
     in-rows-at j h = in-rows cs ds ts shaped (ranked-in-lists cs ds ts shaped j h)
 
