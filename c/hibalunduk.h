@@ -1,4 +1,4 @@
-/* Hibalunduk for programs in C: the three services of document 01 and the listing, and the why service of request 1. The
+/* Hibalunduk for programs in C: the three services of document 01 and the listing, and document 02's why service. The
  * documents decide where this page is short.
  *
  * A table has rows, numbered from 1, each with an execution time C, a deadline D and a period T in whole ticks,
@@ -130,8 +130,8 @@ struct hibalunduk_why {
  * Refusals, in this order: 3 and 4 as in the set service; 10 when `row` is 0 or above the number of rows; 8. Never 1, 2,
  * 5, 6 or 7.
  *
- * Time: below a microsecond for a few rows, below a millisecond for 24; on each list of c/benchmark no more than a call of
- * the point service.
+ * Time: below a microsecond for a few rows, below a millisecond for 24; on each list of c/benchmark what a call of the
+ * point service takes, or less.
  */
 struct hibalunduk_why hibalunduk_why(const uint8_t *c, size_t c_len,
                                      const uint8_t *d, size_t d_len,

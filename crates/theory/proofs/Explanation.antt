@@ -90,14 +90,14 @@ module _ (rows : List Row) (steady : AllSteady rows) (i : ℕ) (inside : i < len
       a = l .allowance
 
       in-set : k < length rows
-      in-set = was-in-set (suc a) (l .first-to-miss .in-set)
+      in-set = was-in-set _ (l .first-to-miss .in-set)
 
       touched : T (touches rows i k)
       touched = go (touches rows i k) refl
         where
           go : (b : Bool) → touches rows i k ≡ b → T (touches rows i k)
           go true e = T-true (touches rows i k) e
-          go false e = absurd (l .first-to-miss .misses (untouched-meets rows i inside (suc a) k steady all in-set (T-false (touches rows i k) e)))
+          go false e = absurd (l .first-to-miss .misses (untouched-meets rows i inside _ k steady all in-set (T-false (touches rows i k) e)))
 
       has-room : PointFor rows k i a
       has-room = meets-point-for a k in-set touched (λ h there t. l .is-allowance .all-meet h there) (l .is-allowance .all-meet k (still-in-set a in-set))
