@@ -1,21 +1,22 @@
 -- The rows judged by rank, from the highest down, each with the row raised that counts most in its load: what holds after j of them, how it begins, goes on,
 -- stops at a miss and ends.
-use mathlib.Core.Path.{_≡_, refl, sym, subst}
+use mathlib.Core.Path.{_≡_, refl, subst}
 use Prim.Native.Nat.{ℕ, suc, _+_, _≤_, _<_, zero-le}
 use mathlib.Core.Logic.{_⊎_, inl, inr}
 use mathlib.Core.List.{List}
 use native.Mathlib.Nat.{mul-le-mul-left, mul-one}
 use native.Mathlib.Omega.{arith}
 use borrow.Author.Count.{below-more}
-use lib.ListN.{length, getD, take, length-set}
-use Rattle.theory.specs.Row.{Row, rowAt}
+use lib.ListN.{length, getD, take}
+use Rattle.theory.specs.Row.{Row}
 use Rattle.theory.specs.Response.{load, Meets, AllMeet, responds, misses, IsOutcome}
-use Rattle.theory.specs.Allowance.{longer, raised, IsCoreAllowance}
+use Rattle.theory.specs.Allowance.{raised, IsCoreAllowance}
 use Rattle.theory.specs.Climb.{RoomAt, LeastRoom}
 use Rattle.theory.specs.Lists.{rowsOf}
 use Rattle.theory.proofs.Tests.{order-cases}
 use Rattle.theory.proofs.Ceil.{ceil-positive}
 use Rattle.theory.proofs.Response.{climbed-outcome}
+use Rattle.theory.proofs.Raise.{raised-in-set}
 use Rattle.theory.proofs.Verdict.{AllSteady, within-steady}
 use Rattle.theory.proofs.Allowance.{raised-steady}
 use Rattle.theory.proofs.Trial.{meets-with-less}
@@ -86,11 +87,10 @@ module _ {cs ds ts executions periods : List ℕ} (stand : StandByRank cs ds ts 
   -- a row that meets with a raise meets with less
   meets-with-most-less : {a b k : ℕ} → a ≤ b → k < length rows → MeetsWithMost rows steady b k → MeetsWithMost rows steady a k
   meets-with-most-less {a} {b} {k} h in-set m =
-      let in-raised : k < length (raised rows (m .row) a) = subst (λ (n : ℕ). k < n) (sym (length-set rows (m .row) (longer (rowAt rows (m .row)) a))) in-set in
       record {
         row = m .row;
         counts = m .counts;
-        meets = meets-with-less rows (m .row) (m .counts .in-set) a b k (raised-steady rows steady (m .row) (m .counts .in-set) a k in-raised .runs) h (m .meets);
+        meets = meets-with-less rows (m .row) (m .counts .in-set) a b k (raised-steady rows steady (m .row) (m .counts .in-set) a k (raised-in-set rows (m .row) a .1 in-set) .runs) h (m .meets);
       }
 
   module _ (j allowance period before : ℕ) (so-far : Judging j allowance period before) (inside : j < length cs) where

@@ -4,12 +4,13 @@ use Prim.Native.Nat.{ℕ, _+_, _≤_, _<_}
 use mathlib.Core.List.{List}
 use native.Mathlib.Omega.{arith}
 use lib.IntN.{ℤ, pos, natAbs}
-use lib.ListN.{length, length-set}
+use lib.ListN.{length}
 use lib.Signed.{pos-natAbs, yes-nonNeg}
 use Rattle.theory.specs.Row.{Row, rowAt, AllWithin}
 use Rattle.theory.specs.Response.{Meets, AllMeet}
-use Rattle.theory.specs.Allowance.{longer, raised, IsAllowance}
+use Rattle.theory.specs.Allowance.{raised, IsAllowance}
 use Rattle.theory.specs.Points.{IsPointAllowance}
+use Rattle.theory.proofs.Raise.{raised-in-set}
 use Rattle.theory.proofs.Verdict.{within-steady}
 use Rattle.theory.proofs.Allowance.{not-negative, allowance-of-points}
 use Rattle.theory.proofs.Trial.{raise-bounded}
@@ -27,7 +28,7 @@ point-allowance-small rows within all i inside z is-z =
     is-allowance = allowance-of-points rows (within-steady rows within) i inside all (natAbs z) (subst (IsPointAllowance rows i) (sym same) is-z)
 
     still-meets : Meets (raised rows i (natAbs z)) i
-    still-meets = is-allowance .all-meet i (subst (λ (n : ℕ). i < n) (sym (length-set rows i (longer (rowAt rows i) (natAbs z)))) inside)
+    still-meets = is-allowance .all-meet i (raised-in-set rows i (natAbs z) .1 inside)
 
     room : all i inside .response + natAbs z ≤ rowAt rows i .D
     room = raise-bounded rows i inside (natAbs z) (all i inside .response) (within i inside .runs) (all i inside .is-response) still-meets

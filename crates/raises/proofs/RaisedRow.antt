@@ -6,17 +6,17 @@ use mathlib.Core.List.{List}
 use native.Mathlib.Omega.{arith}
 use borrow.Author.Tests.{eqb-true, eq-eqb}
 use lib.Dec.{T, eqb, eqb-refl}
-use lib.ListN.{length, getD, take, length-set}
+use lib.ListN.{length, getD, take}
 use Rattle.theory.specs.Row.{Row, rowAt, AllWithin}
 use Rattle.theory.specs.Rank.{rival}
 use Rattle.theory.specs.Response.{ceil, load, Meets}
-use Rattle.theory.specs.Allowance.{longer, raised}
+use Rattle.theory.specs.Allowance.{raised}
 use Rattle.theory.specs.Points.{touches, times}
 use Rattle.theory.specs.Lists.{rowsOf, Shaped}
 use Rattle.theory.proofs.Tests.{or-first, or-second}
 use Rattle.theory.proofs.Ceil.{ceil-one}
 use Rattle.theory.proofs.Response.{Room, meets-room, room-meets}
-use Rattle.theory.proofs.Raise.{raised-row, load-of-touched}
+use Rattle.theory.proofs.Raise.{raised-in-set, raised-row, load-of-touched}
 use Rattle.theory.proofs.Verdict.{within-steady}
 use Rattle.theory.proofs.Allowance.{raised-steady}
 use Rattle.theory.proofs.Rank.{rival-irreflexive}
@@ -61,7 +61,7 @@ module _ {rows : List Row} (within : AllWithin rows) {k s own : ℕ} {cs ts : Li
   pub raised-with-room-meets : RoomBy (raisedLoad own cs ts period a) (rowAt rows k .D) → Meets (raised rows s a) k
   raised-with-room-meets r =
       room-meets (raised rows s a) k
-      (raised-steady rows (within-steady rows within) s (counted .other-in-set) a k (subst (λ (n : ℕ). k < n) (sym (length-set rows s (longer (rowAt rows s) a))) (counted .in-set)) .runs)
+      (raised-steady rows (within-steady rows within) s (counted .other-in-set) a k (raised-in-set rows s a .1 (counted .in-set)) .runs)
       (record {
         time = r .time;
         room = record {

@@ -9,16 +9,16 @@ use native.Mathlib.Omega.{arith}
 use native.Mathlib.Nat.{le-antisymm, zero-mul}
 use lib.Dec.{T}
 use lib.IntN.{ℤ, pos}
-use lib.ListN.{length, length-set}
+use lib.ListN.{length}
 use lib.Signed.{_≤ℤ_, ≤ℤ-refl, pos-natAbs, yes-nonNeg}
 use Rattle.theory.specs.Row.{Row, rowAt}
 use Rattle.theory.specs.Response.{load, AllMeet}
-use Rattle.theory.specs.Allowance.{longer, raised, IsAllowance}
+use Rattle.theory.specs.Allowance.{raised, IsAllowance}
 use Rattle.theory.specs.Points.{points, slack, HasPoint, times, touches, IsPointAllowance, bound, pointAllowance, allowance}
 use Rattle.theory.proofs.Each.{T-true, T-false}
 use Rattle.theory.proofs.Signed.{≤ℤ-trans, slack-left, le-pos}
 use Rattle.theory.proofs.Verdict.{Steady, AllSteady, on-time-by-points}
-use Rattle.theory.proofs.Raise.{raised-row, points-stay, load-of-touched, load-of-untouched}
+use Rattle.theory.proofs.Raise.{raised-in-set, raised-row, points-stay, load-of-touched, load-of-untouched}
 use Rattle.theory.proofs.Bound.{PointFor, bound-is, bound-covers, point-allowance-is}
 
 -- an allowance is unique
@@ -28,12 +28,12 @@ allowance-unique rows i a b p q = le-antisymm (q .largest a (p .all-meet)) (p .l
 module _ (rows : List Row) (steady : AllSteady rows) (i : ℕ) (inside : i < length rows) where
   pub raised-steady : (a : ℕ) → AllSteady (raised rows i a)
   raised-steady a h l =
-      let s : Steady (rowAt rows h) = steady h (subst (λ (n : ℕ). h < n) (length-set rows i (longer (rowAt rows i) a)) l) in
+      let s : Steady (rowAt rows h) = steady h (raised-in-set rows i a .0 l) in
       subst Steady (sym (raised-row rows i a inside h))
       (record { runs = omega (arith, s .runs); some-deadline = s .some-deadline; by-period = s .by-period })
 
   -- a point of row k at which the raised load fits is a point of non-negative slack of the raised set, and the other way round
-  pub raised-point : (a k p : ℕ) → List·Memᴰ p (points rows k) → load (raised rows i a) k p ≤ p → HasPoint (raised rows i a) k
+  raised-point : (a k p : ℕ) → List·Memᴰ p (points rows k) → load (raised rows i a) k p ≤ p → HasPoint (raised rows i a) k
   unfolding slack
   raised-point a k p m h = record {
     point = p;
@@ -49,6 +49,9 @@ module _ (rows : List Row) (steady : AllSteady rows) (i : ℕ) (inside : i < len
     room = omega (arith, slack-left (p .point) (load (raised rows i a) k (p .point)) .0 (p .slack-left), load-of-touched rows i a inside k (p .point) t);
   }
 
+  pub point-of-raised : (a k : ℕ) → T (touches rows i k) → PointFor rows k i a → HasPoint (raised rows i a) k
+  point-of-raised a k t q = raised-point a k (q .point) (q .among-points) (omega (arith, q .room, load-of-touched rows i a inside k (q .point) t))
+
   module _ (all-meet : AllMeet rows) (z : ℤ) (is-z : IsPointAllowance rows i z) where
     -- each row of the set raised by no more than the point allowance has a point
     has-point : (a : ℕ) → pos a ≤ℤ z → (k : ℕ) → k < length rows → HasPoint (raised rows i a) k
@@ -58,9 +61,9 @@ module _ (rows : List Row) (steady : AllSteady rows) (i : ℕ) (inside : i < len
         go : (b : Bool) → touches rows i k ≡ b → HasPoint (raised rows i a) k
         go true e =
             let t : T (touches rows i k) = T-true (touches rows i k) e in
-            let q : PointFor rows k i a = bound-covers rows steady k i in-set inside a (bound rows k i) (bound-is rows k i) .0
-            (≤ℤ-trans (pos a) z (bound rows k i) h (is-z .smallest k (bound rows k i) in-set t (bound-is rows k i))) in
-            raised-point a k (q .point) (q .among-points) (omega (arith, q .room, load-of-touched rows i a inside k (q .point) t))
+            point-of-raised a k t
+            (bound-covers rows steady k i in-set inside a (bound rows k i) (bound-is rows k i) .0
+            (≤ℤ-trans (pos a) z (bound rows k i) h (is-z .smallest k (bound rows k i) in-set t (bound-is rows k i))))
         go false e =
             let p : HasPoint rows k = on-time-by-points rows steady .0 all-meet k in-set in
             raised-point a k (p .point) (p .among-points)
@@ -75,13 +78,9 @@ module _ (rows : List Row) (steady : AllSteady rows) (i : ℕ) (inside : i < len
     all-meet-with a = (
       λ all.
           bound-covers rows steady (is-z .row) i (is-z .in-set) inside a z (is-z .its-bound) .1
-          (point-for a (is-z .row) (is-z .touched) (on-time-by-points (raised rows i a) (raised-steady a) .0 all (is-z .row) (same-length .1 (is-z .in-set)))),
-      λ h. on-time-by-points (raised rows i a) (raised-steady a) .1 (λ k in-set. has-point a h k (same-length .0 in-set)),
+          (point-for a (is-z .row) (is-z .touched) (on-time-by-points (raised rows i a) (raised-steady a) .0 all (is-z .row) (raised-in-set rows i a .1 (is-z .in-set)))),
+      λ h. on-time-by-points (raised rows i a) (raised-steady a) .1 (λ k in-set. has-point a h k (raised-in-set rows i a .0 in-set)),
     )
-      where
-        same-length : {k : ℕ} → (k < length (raised rows i a)) ↔ (k < length rows)
-        same-length {k} =
-            (subst (λ (n : ℕ). k < n) (length-set rows i (longer (rowAt rows i) a)), subst (λ (n : ℕ). k < n) (sym (length-set rows i (longer (rowAt rows i) a))))
 
     -- and it is no negative number
     pub not-negative : pos 0 ≤ℤ z

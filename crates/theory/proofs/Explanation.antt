@@ -6,16 +6,15 @@ use mathlib.Core.Bool.{Bool, true, false}
 use mathlib.Core.Logic.{_↔_}
 use mathlib.Core.List.{List, List·Memᴰ}
 use native.Mathlib.Omega.{arith}
-use borrow.Author.Tests.{leb-true, leb-false}
-use lib.Dec.{T, leb}
+use lib.Dec.{T}
 use lib.IntN.{ℤ, pos}
-use lib.ListN.{length, length-set}
+use lib.ListN.{length}
 use lib.Signed.{_≤ℤ_, ≤ℤ-refl}
 use Rattle.theory.specs.Gather.{First}
 use Rattle.theory.specs.Row.{Row, rowAt}
 use Rattle.theory.specs.Rank.{above, levels}
-use Rattle.theory.specs.Response.{load, IsResponse, Meets, AllMeet, FirstMiss}
-use Rattle.theory.specs.Allowance.{longer, raised}
+use Rattle.theory.specs.Response.{load, Meets, AllMeet, FirstMiss}
+use Rattle.theory.specs.Allowance.{raised}
 use Rattle.theory.specs.Points.{points, times, quotient, touches, bound, IsBound}
 use Rattle.theory.specs.Explanation.{LimitedBy, TrueReason}
 use Rattle.theory.proofs.Each.{T-true, T-false}
@@ -24,10 +23,10 @@ use Rattle.theory.proofs.Walk.{walk-positive}
 use Rattle.theory.proofs.Ascending.{least-is-first}
 use Rattle.theory.proofs.Signed.{≤ℤ-antisymm, pos-exactly}
 use Rattle.theory.proofs.Verdict.{AllSteady, RivalsMeet, point-meets, verdict-by-points}
-use Rattle.theory.proofs.Raise.{above-stays, load-of-touched}
+use Rattle.theory.proofs.Raise.{raised-in-set, above-stays, load-of-touched}
 use Rattle.theory.proofs.Bound.{PointFor, quotient-has-room, bound-is, bound-unique, bound-covers}
-use Rattle.theory.proofs.Allowance.{allowance-unique, raised-steady, raised-point, point-for}
-use Rattle.theory.proofs.Trial.{response-below-room, meets-with-less, untouched-meets, trial-allowance}
+use Rattle.theory.proofs.Allowance.{allowance-unique, raised-steady, point-of-raised, point-for}
+use Rattle.theory.proofs.Trial.{response-below-room, miss-bounds, untouched-meets, trial-allowance}
 use Rattle.theory.proofs.Lists.{first-miss-unique}
 
 -- one row and one point limit a row
@@ -43,22 +42,15 @@ limited-unique rows i k h p q l m = (same-row, same-point)
         (subst (λ (r : ℕ). First (λ x. IsBound rows r i (quotient rows r i x)) (points rows r) p) same-row (l .first-greatest)) (m .first-greatest)
 
 module _ (rows : List Row) (steady : AllSteady rows) (i : ℕ) (inside : i < length rows) (all : AllMeet rows) where
-  still-in-set : (a : ℕ) {k : ℕ} → k < length rows → k < length (raised rows i a)
-  still-in-set a {k} h = subst (λ (n : ℕ). k < n) (sym (length-set rows i (longer (rowAt rows i) a))) h
-
-  was-in-set : (a : ℕ) {k : ℕ} → k < length (raised rows i a) → k < length rows
-  was-in-set a {k} h = subst (λ (n : ℕ). k < n) (length-set rows i (longer (rowAt rows i) a)) h
-
   -- a row with a point that has room for a more meets with it
   point-for-meets : (a k : ℕ) → k < length rows → T (touches rows i k) → PointFor rows k i a → Meets (raised rows i a) k
   point-for-meets a k in-set t q =
-      point-meets (raised rows i a) (raised-steady rows steady i inside a) k (still-in-set a in-set)
-      (raised-point rows steady i inside a k (q .point) (q .among-points) (omega (arith, q .room, load-of-touched rows i a inside k (q .point) t)))
+      point-meets (raised rows i a) (raised-steady rows steady i inside a) k (raised-in-set rows i a .1 in-set) (point-of-raised rows steady i inside a k t q)
 
   -- and one that meets with it, as its rivals do, has such a point
   meets-point-for : (a k : ℕ) → k < length rows → T (touches rows i k) → RivalsMeet (raised rows i a) k → Meets (raised rows i a) k → PointFor rows k i a
   meets-point-for a k in-set t rivals m =
-      point-for rows steady i inside a k t (verdict-by-points (raised rows i a) (raised-steady rows steady i inside a) k (still-in-set a in-set) rivals .0 m)
+      point-for rows steady i inside a k t (verdict-by-points (raised rows i a) (raised-steady rows steady i inside a) k (raised-in-set rows i a .1 in-set) rivals .0 m)
 
   -- room for a more and for no more makes a the bound
   bound-exactly : (a k : ℕ) → k < length rows → PointFor rows k i a → (PointFor rows k i (suc a) → ⊥) → IsBound rows k i (pos a)
@@ -74,12 +66,12 @@ module _ (rows : List Row) (steady : AllSteady rows) (i : ℕ) (inside : i < len
     all-meet-with-it = l .is-allowance .all-meet;
     misses-with-one-more = l .first-to-miss .misses;
     above-meet-with-one-more = λ h in-set t.
-        l .first-to-miss .above-meet h (still-in-set (suc a) in-set) (subst (λ (relation : ℕ → ℕ → Bool). T (relation h k)) (sym (above-stays rows i (suc a) inside)) t);
+        l .first-to-miss .above-meet h (raised-in-set rows i (suc a) .1 in-set) (subst (λ (relation : ℕ → ℕ → Bool). T (relation h k)) (sym (above-stays rows i (suc a) inside)) t);
     touched = touched;
     its-bound = is-bound;
     its-quotient = is-quotient;
     done-by-point = λ R is-R.
-        response-below-room (raised rows i a) k R p (raised-steady rows steady i inside a k (still-in-set a in-set) .runs) is-R
+        response-below-room (raised rows i a) k R p (raised-steady rows steady i inside a k (raised-in-set rows i a .1 in-set) .runs) is-R
         (record {
           from-one = walk-positive (levels rows k) (length (levels rows k)) (rowAt rows k .D) p (steady k in-set .some-deadline) among;
           enough = omega (arith, load-of-touched rows i a inside k p touched, quotient-has-room rows steady k i in-set inside a p among .0 (subst (λ (z : ℤ). pos a ≤ℤ z) (sym is-quotient) (≤ℤ-refl (pos a))));
@@ -90,17 +82,17 @@ module _ (rows : List Row) (steady : AllSteady rows) (i : ℕ) (inside : i < len
       a = l .allowance
 
       in-set : k < length rows
-      in-set = was-in-set _ (l .first-to-miss .in-set)
+      in-set = raised-in-set rows i _ .0 (l .first-to-miss .in-set)
 
       touched : T (touches rows i k)
       touched = go (touches rows i k) refl
         where
           go : (b : Bool) → touches rows i k ≡ b → T (touches rows i k)
           go true e = T-true (touches rows i k) e
-          go false e = absurd (l .first-to-miss .misses (untouched-meets rows i inside _ k steady all in-set (T-false (touches rows i k) e)))
+          go false e = absurd (l .first-to-miss .misses (untouched-meets rows i inside _ k steady in-set (all k in-set) (T-false (touches rows i k) e)))
 
       has-room : PointFor rows k i a
-      has-room = meets-point-for a k in-set touched (λ h there t. l .is-allowance .all-meet h there) (l .is-allowance .all-meet k (still-in-set a in-set))
+      has-room = meets-point-for a k in-set touched (λ h there t. l .is-allowance .all-meet h there) (l .is-allowance .all-meet k (raised-in-set rows i a .1 in-set))
 
       no-more : PointFor rows k i (suc a) → ⊥
       no-more q = l .first-to-miss .misses (point-for-meets (suc a) k in-set touched q)
@@ -130,7 +122,7 @@ module _ (rows : List Row) (steady : AllSteady rows) (i : ℕ) (inside : i < len
   unfolding points
   found-limited k p a found = record {
     allowance = a;
-    is-allowance = trial-allowance rows i inside a steady all (λ h there t. point-for-meets a h there t (found .each-has-room h there t)) no-larger;
+    is-allowance = trial-allowance rows i inside a steady all (λ h there t. point-for-meets a h there t (found .each-has-room h there t)) (miss-bounds rows i inside a k steady (found .in-set) misses);
     first-to-miss = first;
     first-greatest = first-point;
   }
@@ -139,28 +131,23 @@ module _ (rows : List Row) (steady : AllSteady rows) (i : ℕ) (inside : i < len
       above-meet : (h : ℕ) → h < length (raised rows i (suc a)) → T (above (raised rows i (suc a)) h k) → Meets (raised rows i (suc a)) h
       above-meet h there t = go (touches rows i h) refl
         where
+          in-set : h < length rows
+          in-set = raised-in-set rows i (suc a) .0 there
+
           ranks : T (above rows h k)
           ranks = subst (λ (relation : ℕ → ℕ → Bool). T (relation h k)) (above-stays rows i (suc a) inside) t
 
           go : (b : Bool) → touches rows i h ≡ b → Meets (raised rows i (suc a)) h
           go true e =
               let touched : T (touches rows i h) = T-true (touches rows i h) e in
-              point-for-meets (suc a) h (was-in-set (suc a) there) touched (found .above-have-more h (was-in-set (suc a) there) touched ranks)
-          go false e = untouched-meets rows i inside (suc a) h steady all (was-in-set (suc a) there) (T-false (touches rows i h) e)
+              point-for-meets (suc a) h in-set touched (found .above-have-more h in-set touched ranks)
+          go false e = untouched-meets rows i inside (suc a) h steady in-set (all h in-set) (T-false (touches rows i h) e)
 
       misses : Meets (raised rows i (suc a)) k → ⊥
       misses m = found .no-more (meets-point-for (suc a) k (found .in-set) (found .touched) above-meet m)
 
       first : FirstMiss (raised rows i (suc a)) k
-      first = record { in-set = still-in-set (suc a) (found .in-set); misses = misses; above-meet = above-meet }
-
-      no-larger : (b : ℕ) → AllMeet (raised rows i b) → b ≤ a
-      no-larger b meet = go (leb b a) refl
-        where
-          go : (c : Bool) → leb b a ≡ c → b ≤ a
-          go true e = leb-true b a e
-          go false e =
-              absurd (misses (meets-with-less rows i inside (suc a) b k (raised-steady rows steady i inside (suc a) k (still-in-set (suc a) (found .in-set)) .runs) (leb-false b a e) (meet k (still-in-set b (found .in-set)))))
+      first = record { in-set = raised-in-set rows i (suc a) .1 (found .in-set); misses = misses; above-meet = above-meet }
 
       is-bound : IsBound rows k i (pos a)
       is-bound = bound-exactly a k (found .in-set) (record { point = p; among-points = found .among-points; room = found .has-room }) (found .no-more)

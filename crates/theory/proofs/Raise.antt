@@ -2,7 +2,7 @@
 use mathlib.Core.Path.{_≡_, refl, sym, _∙_, ap, fun-ext, subst}
 use Prim.Native.Nat.{ℕ, zero, suc, _+_, _*_, _<_}
 use mathlib.Core.Bool.{Bool, true, false}
-use mathlib.Core.Logic.{_⊎_, inl, inr, ⊎-elim}
+use mathlib.Core.Logic.{_↔_, _⊎_, inl, inr, ⊎-elim}
 use mathlib.Core.List.{List, [], _∷_, map}
 use native.Mathlib.Omega.{arith}
 use native.Mathlib.Nat.{mul-add, mul-comm, mul-zero, mul-one}
@@ -22,6 +22,11 @@ use Rattle.theory.proofs.Walk.{walk-by-periods}
 use Rattle.theory.proofs.Demand.{ask}
 use Rattle.theory.proofs.Tests.{or-cases, or-first, or-second, equal-or-not}
 use Rattle.theory.proofs.Rank.{rival-irreflexive, mem-rivals, all-rivals, rivals-ascending}
+
+-- a raised set has the rows that it had
+pub raised-in-set : (rows : List Row) (i a : ℕ) {k : ℕ} → (k < length (raised rows i a)) ↔ (k < length rows)
+raised-in-set rows i a {k} =
+    (subst (λ (n : ℕ). k < n) (length-set rows i (longer (rowAt rows i) a)), subst (λ (n : ℕ). k < n) (sym (length-set rows i (longer (rowAt rows i) a))))
 
 module _ (rows : List Row) (i a : ℕ) (inside : i < length rows) where
   abbrev after : List Row

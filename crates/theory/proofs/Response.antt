@@ -4,7 +4,7 @@ use mathlib.Core.Path.{_≡_}
 use Prim.Native.Nat.{ℕ, _≤_, _<_}
 use mathlib.Core.List.{List}
 use native.Mathlib.Omega.{arith}
-use native.Mathlib.Nat.{le-antisymm, le-refl}
+use native.Mathlib.Nat.{le-antisymm, le-refl, le-trans}
 use Rattle.theory.specs.Row.{Row, rowAt}
 use Rattle.theory.specs.Response.{load, IsResponse, Meets, Outcome, responds, misses, IsOutcome, climb, outcome}
 use Rattle.theory.proofs.Demand.{load-mono}
@@ -74,3 +74,17 @@ module _ (rows : List Row) (k : ℕ) (runs : 1 ≤ rowAt rows k .C) where
       go : (o : Outcome) → Climbed (load rows k) (rowAt rows k .D) o → Meets rows k
       go (responds R) c = record { response = R; is-response = least-response rows k R (c .0); by-deadline = c .1 }
       go misses c = absurd (let late : rowAt rows k .D < r .time = c (r .time) (r .room) in omega (arith, r .within))
+
+-- a row that is loaded no more than in another set, and has the same deadline, meets where it meets there
+pub meets-with-no-more-load : (rows other : List Row) (k : ℕ) → 1 ≤ rowAt rows k .C → rowAt other k .D ≡ rowAt rows k .D
+    → ((t : ℕ) → 1 ≤ t → load rows k t ≤ load other k t)
+    → Meets other k
+    → Meets rows k
+meets-with-no-more-load rows other k runs same-deadline less m =
+    let r : Room other k (rowAt other k .D) = meets-room other k m in
+    room-meets rows k runs
+    (record {
+      time = r .time;
+      room = record { from-one = r .room .from-one; enough = le-trans (less (r .time) (r .room .from-one)) (r .room .enough) };
+      within = omega (arith, r .within, same-deadline);
+    })

@@ -1,22 +1,22 @@
 -- The laws on which a search by trial stands: a row that meets with b more in row i meets with less, and row i's own distance to its deadline bounds every raise.
-use mathlib.Core.Path.{_≡_, refl, sym, ap, subst}
-use Prim.Native.Nat.{ℕ, _+_, _*_, _≤_, _<_}
+use mathlib.Core.Path.{_≡_, refl, sym, ap, _∙_}
+use Prim.Native.Nat.{ℕ, suc, _+_, _*_, _≤_, _<_}
 use mathlib.Core.Bool.{Bool, true, false}
 use mathlib.Core.List.{List}
 use native.Mathlib.Omega.{arith}
-use native.Mathlib.Nat.{le-trans, mul-le-mul-right, mul-one}
-use borrow.Author.Tests.{eq-eqb}
-use lib.Dec.{T, eqb, eqb-refl}
-use lib.ListN.{length, length-set}
+use native.Mathlib.Nat.{mul-le-mul-right, mul-one}
+use borrow.Author.Tests.{eq-eqb, leb-true, leb-false}
+use lib.Dec.{T, leb, eqb, eqb-refl}
+use lib.ListN.{length}
 use Rattle.theory.specs.Row.{Row, rowAt}
 use Rattle.theory.specs.Rank.{rival}
 use Rattle.theory.specs.Response.{load, Outcome, responds, misses, climb, IsResponse, Meets, AllMeet}
-use Rattle.theory.specs.Allowance.{longer, raised, IsAllowance}
+use Rattle.theory.specs.Allowance.{raised, IsAllowance}
 use Rattle.theory.specs.Points.{times, touches}
 use Rattle.theory.specs.Climb.{RoomAt, Climbed}
 use Rattle.theory.proofs.Demand.{load-mono}
-use Rattle.theory.proofs.Response.{Room, meets-room, room-meets, climb-from-one}
-use Rattle.theory.proofs.Raise.{raised-row, load-of-touched, load-of-untouched}
+use Rattle.theory.proofs.Response.{meets-with-no-more-load, climb-from-one}
+use Rattle.theory.proofs.Raise.{raised-in-set, raised-row, load-of-touched, load-of-untouched}
 use Rattle.theory.proofs.Tests.{or-first}
 use Rattle.theory.proofs.Each.{T-true, T-false}
 use Rattle.theory.proofs.Verdict.{AllSteady}
@@ -51,19 +51,22 @@ module _ (rows : List Row) (i : ℕ) (inside : i < length rows) where
             load-of-untouched rows i b inside k t (T-false (touches rows i k) e),
           )
 
+  -- and moves no deadline
+  pub same-deadline : (a k : ℕ) → rowAt (raised rows i a) k .D ≡ rowAt rows k .D
+  same-deadline a k = ap (λ (r : Row). r .D) (raised-row rows i a inside k)
+
   -- a row that meets with b more in row i meets with less
   pub meets-with-less : (a b k : ℕ) → 1 ≤ rowAt (raised rows i a) k .C → a ≤ b → Meets (raised rows i b) k → Meets (raised rows i a) k
-  meets-with-less a b k runs h m =
-      let r : Room (raised rows i b) k (rowAt (raised rows i b) k .D) = meets-room (raised rows i b) k m in
-      room-meets (raised rows i a) k runs
-      (record {
-        time = r .time;
-        room = record { from-one = r .room .from-one; enough = le-trans (raise-mono a b k (r .time) h) (r .room .enough) };
-        within = omega (arith, r .within, same-deadline a k, same-deadline b k);
-      })
+  meets-with-less a b k runs h m = meets-with-no-more-load (raised rows i a) (raised rows i b) k runs (same-deadline b k ∙ sym (same-deadline a k)) (λ t from-one. raise-mono a b k t h) m
+
+  -- so where a row misses with one more than a, no raise above a leaves all rows meeting
+  pub miss-bounds : (a k : ℕ) → AllSteady rows → k < length rows → (Meets (raised rows i (suc a)) k → ⊥) → (b : ℕ) → AllMeet (raised rows i b) → b ≤ a
+  miss-bounds a k steady in-set late b meet = go (leb b a) refl
     where
-      same-deadline : (a k : ℕ) → rowAt (raised rows i a) k .D ≡ rowAt rows k .D
-      same-deadline a k = ap (λ (r : Row). r .D) (raised-row rows i a inside k)
+      go : (c : Bool) → leb b a ≡ c → b ≤ a
+      go true e = leb-true b a e
+      go false e =
+          absurd (late (meets-with-less (suc a) b k (raised-steady rows steady i inside (suc a) k (raised-in-set rows i (suc a) .1 in-set) .runs) (leb-false b a e) (meet k (raised-in-set rows i b .1 in-set))))
 
   -- its own raise counts once in row i's load
   raised-own : (b t : ℕ) → load (raised rows i b) i t ≡ load rows i t + b
@@ -93,15 +96,10 @@ module _ (rows : List Row) (i : ℕ) (inside : i < length rows) where
       )
 
   -- a row that the raise does not touch meets with it
-  pub untouched-meets : (a k : ℕ) → AllSteady rows → AllMeet rows → k < length rows → (T (touches rows i k) → ⊥) → Meets (raised rows i a) k
-  untouched-meets a k steady all in-set untouched =
-      let r : Room rows k (rowAt rows k .D) = meets-room rows k (all k in-set) in
-      room-meets (raised rows i a) k (raised-steady rows steady i inside a k (subst (λ (n : ℕ). k < n) (sym (length-set rows i (longer (rowAt rows i) a))) in-set) .runs)
-      (record {
-        time = r .time;
-        room = record { from-one = r .room .from-one; enough = omega (arith, r .room .enough, load-of-untouched rows i a inside k (r .time) untouched) };
-        within = omega (arith, r .within, ap (λ (r : Row). r .D) (raised-row rows i a inside k));
-      })
+  pub untouched-meets : (a k : ℕ) → AllSteady rows → k < length rows → Meets rows k → (T (touches rows i k) → ⊥) → Meets (raised rows i a) k
+  untouched-meets a k steady in-set plain untouched =
+      meets-with-no-more-load (raised rows i a) rows k (raised-steady rows steady i inside a k (raised-in-set rows i a .1 in-set) .runs) (sym (same-deadline a k))
+      (λ t from-one. omega (arith, load-of-untouched rows i a inside k t untouched)) plain
 
   -- so all rows meet with it where those do that it touches
   touched-decide : (a : ℕ) → AllSteady rows → AllMeet rows
@@ -113,7 +111,7 @@ module _ (rows : List Row) (i : ℕ) (inside : i < length rows) where
     where
       go : (b : Bool) → touches rows i k ≡ b → Meets (raised rows i a) k
       go true e = touched-meet k in-set (T-true (touches rows i k) e)
-      go false e = untouched-meets a k steady all in-set (T-false (touches rows i k) e)
+      go false e = untouched-meets a k steady in-set (all k in-set) (T-false (touches rows i k) e)
 
   -- what a search by trial finds is the allowance: each row that the raise touches meets with it, and no larger one leaves all rows meeting
   pub trial-allowance : (a : ℕ) → AllSteady rows → AllMeet rows
@@ -121,6 +119,6 @@ module _ (rows : List Row) (i : ℕ) (inside : i < length rows) where
       → ((b : ℕ) → AllMeet (raised rows i b) → b ≤ a)
       → IsAllowance rows i a
   trial-allowance a steady all touched-meet no-larger = record {
-    all-meet = λ k h. touched-decide a steady all touched-meet k (subst (λ (n : ℕ). k < n) (length-set rows i (longer (rowAt rows i) a)) h);
+    all-meet = λ k h. touched-decide a steady all touched-meet k (raised-in-set rows i a .0 h);
     largest = no-larger;
   }

@@ -6,17 +6,18 @@ use mathlib.Core.List.{List}
 use native.Mathlib.Omega.{arith}
 use borrow.Author.Tests.{eqb-true}
 use lib.Dec.{T, eqb}
-use lib.ListN.{length, getD, take, length-set, length-map}
+use lib.ListN.{length, getD, take, length-map}
 use lib.Seq.{take-all}
 use Rattle.theory.specs.Row.{Row, rowAt, WithinLimits, AllWithin}
 use Rattle.theory.specs.Rank.{rival}
 use Rattle.theory.specs.Response.{load, IsResponse, Meets, AllMeet}
 use Rattle.theory.specs.Climb.{LeastRoom}
-use Rattle.theory.specs.Allowance.{longer, raised, IsAllowance}
+use Rattle.theory.specs.Allowance.{raised, IsAllowance}
 use Rattle.theory.specs.Points.{touches}
 use Rattle.theory.specs.Lists.{rowsOf, Shaped}
 use Rattle.theory.proofs.Tests.{equal-or-not, or-cases}
 use Rattle.theory.proofs.Each.{true-of}
+use Rattle.theory.proofs.Raise.{raised-in-set}
 use Rattle.theory.proofs.Verdict.{within-steady}
 use Rattle.theory.proofs.Trial.{response-below-room, trial-allowance}
 use Rattle.demands.specs.Levels.{loadOf, Small}
@@ -165,7 +166,7 @@ module _ (cs ds ts : List ℕ) (shaped : Shaped cs ds ts) (within : AllWithin (r
     allowance-of-rank {responses} listed in-time a given =
         trial-allowance rows (at p) (in-rows-at p inside) a (within-steady rows within) all-meet
         (λ k h touched. touched-meets k (rank-of cs ds ts shaped k (in-lists cs ds ts shaped h)) touched)
-        (λ b meet. at-rank .largest b (λ j from h. room-of-meets b j from (in-set h) (meet (at j) (still-in-set b (in-rows-at j (in-set h))))))
+        (λ b meet. at-rank .largest b (λ j from h. room-of-meets b j from (in-set h) (meet (at j) (raised-in-set rows (at p) b .1 (in-rows-at j (in-set h))))))
       where
         all-meet : AllMeet rows
         all-meet k h =
@@ -174,9 +175,6 @@ module _ (cs ds ts : List ℕ) (shaped : Shaped cs ds ts) (within : AllWithin (r
 
         at-rank : AllowanceAt (byRank ds cs) (byRank ds ds) (byRank ds ts) p a
         at-rank = rw (listed .executions-by-rank, listed .deadlines-by-rank, listed .periods-by-rank) at given
-
-        still-in-set : (b : ℕ) {k : ℕ} → k < length rows → k < length (raised rows (at p) b)
-        still-in-set b {k} h = subst (λ (n : ℕ). k < n) (sym (length-set rows (at p) (longer (rowAt rows (at p)) b))) h
 
         touched-meets : (k : ℕ) → Ranked cs ds ts shaped k → T (touches rows (at p) k) → Meets (raised rows (at p) a) k
         touched-meets k stands touched =
