@@ -2,7 +2,7 @@
 use Prim.Native.Nat.{ℕ}
 use Rattle.theory.specs.Returned.{Returned, returned}
 use Rattle.answers.specs.declared.Answer.{Answer}
-use Rattle.answers.specs.declared.Answer.the-variants.{Accepted, RecordsBroken, CoresOutOfRange, RowsOutOfRange, RowBreaksLimits, CountDiffers, NoCoreTakes, OutputTooShort, RowMisses, RowNotInSet}
+use Rattle.answers.specs.declared.Answer.the-variants.{Accepted, RecordsBroken, CoresOutOfRange, RowsOutOfRange, RowBreaksLimits, CountDiffers, NoCoreTakes, OutputTooShort, RowMisses, LineBroken, RowNotInSet}
 
 -- number and row of each case
 abbrev pub returnedBy : Answer → Returned
@@ -15,6 +15,7 @@ returnedBy CountDiffers = returned 5 0
 returnedBy (NoCoreTakes row) = returned 6 row
 returnedBy OutputTooShort = returned 7 0
 returnedBy (RowMisses row) = returned 8 row
+returnedBy (LineBroken line) = returned 9 line
 returnedBy RowNotInSet = returned 10 0
 
 -- its number, and its row

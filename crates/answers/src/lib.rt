@@ -12,6 +12,7 @@ pub enum Answer {
     NoCoreTakes(u32),
     OutputTooShort,
     RowMisses(u32),
+    LineBroken(u32),
     RowNotInSet,
 }
 
@@ -29,6 +30,7 @@ pub fn number_of(answer: Answer) -> u32
         Answer::NoCoreTakes(_) => 6,
         Answer::OutputTooShort => 7,
         Answer::RowMisses(_) => 8,
+        Answer::LineBroken(_) => 9,
         Answer::RowNotInSet => 10,
     }
 }
@@ -41,6 +43,7 @@ pub fn row_of(answer: Answer) -> u32
         Answer::RowBreaksLimits(row) => row,
         Answer::NoCoreTakes(row) => row,
         Answer::RowMisses(row) => row,
+        Answer::LineBroken(line) => line,
         Answer::Accepted => 0,
         Answer::RecordsBroken => 0,
         Answer::CoresOutOfRange => 0,

@@ -5,7 +5,7 @@ use native.Mathlib.Omega.{arith}
 use lib.Dec.{eqb}
 use borrow.Author.Tests.{eqb-true, eqb-false}
 use Rattle.answers.specs.declared.Answer.{Answer}
-use Rattle.answers.specs.declared.Answer.the-variants.{Accepted, RecordsBroken, CoresOutOfRange, RowsOutOfRange, RowBreaksLimits, CountDiffers, NoCoreTakes, OutputTooShort, RowMisses, RowNotInSet}
+use Rattle.answers.specs.declared.Answer.the-variants.{Accepted, RecordsBroken, CoresOutOfRange, RowsOutOfRange, RowBreaksLimits, CountDiffers, NoCoreTakes, OutputTooShort, RowMisses, LineBroken, RowNotInSet}
 use Rattle.answers.specs.Answer.{numberOf}
 use Rattle.records.specs.Reading.{Reading, table}
 use Rattle.reading.specs.declared.Read.{Read}
@@ -23,6 +23,7 @@ number-0-accepted CountDiffers none = absurd (omega arith)
 number-0-accepted (NoCoreTakes row) none = absurd (omega arith)
 number-0-accepted OutputTooShort none = absurd (omega arith)
 number-0-accepted (RowMisses row) none = absurd (omega arith)
+number-0-accepted (LineBroken line) none = absurd (omega arith)
 number-0-accepted RowNotInSet none = absurd (omega arith)
 
 -- a refusal is read

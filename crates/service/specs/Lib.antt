@@ -1,2 +1,3 @@
--- What the table service and the bench program promise.
+-- What the table service, the bench program and the services on a text promise.
 pub mod Table
+pub mod Text
