@@ -1,2 +1,4 @@
 -- Laws of texts.
-pub mod Scratch
+pub mod Lines
+pub mod Held
+pub mod Numbers

@@ -1,0 +1,27 @@
+-- What stands from a place in a text on, for one that reads it from the front: the rest of a field, of its line, and of the text.
+use Prim.Native.Nat.{ℕ}
+use mathlib.Core.List.{List, [], _∷_}
+use Rattle.texts.specs.Text.{linesOf, fieldsOf}
+
+-- the first part, which is empty where there are none, and the others
+abbrev pub firstPart : List (List ℕ) → List ℕ
+firstPart [] = []
+firstPart (part ∷ parts) = part
+
+abbrev pub otherParts : List (List ℕ) → List (List ℕ)
+otherParts [] = []
+otherParts (part ∷ parts) = parts
+
+-- the rest of the line, and the lines behind it
+abbrev pub restOfLine : List ℕ → List ℕ
+restOfLine text = firstPart (linesOf text)
+
+abbrev pub linesBehind : List ℕ → List (List ℕ)
+linesBehind text = otherParts (linesOf text)
+
+-- the rest of the field, and the fields behind it in the line
+abbrev pub restOfField : List ℕ → List ℕ
+restOfField text = firstPart (fieldsOf (restOfLine text))
+
+abbrev pub fieldsBehind : List ℕ → List (List ℕ)
+fieldsBehind text = otherParts (fieldsOf (restOfLine text))
