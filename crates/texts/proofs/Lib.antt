@@ -2,3 +2,4 @@
 pub mod Lines
 pub mod Held
 pub mod Numbers
+pub mod ThreeFields

@@ -1,11 +1,14 @@
 -- Lines and fields, read from the front: what a byte does to the rest of its field, of its line and of the text.
-use mathlib.Core.Path.{_≡_, refl, ap, _∙_}
-use Prim.Native.Nat.{ℕ}
+use mathlib.Core.Path.{_≡_, refl, sym, ap, _∙_}
+use Prim.Native.Nat.{ℕ, suc}
+use native.Mathlib.Omega.{arith}
 use mathlib.Core.Bool.{Bool, true, false, _&&_}
 use mathlib.Core.List.{List, [], _∷_, _++_}
 use lib.Dec.{eqb}
-use borrow.Author.Tests.{eqb-true, ne-eqb}
+use lib.ListN.{length, getD}
+use borrow.Author.Tests.{eqb-true, eqb-false, ne-eqb}
 use Rattle.theory.specs.Gather.{All}
+use Rattle.theory.proofs.Each.{T-true, T-false}
 use Rattle.texts.specs.Text.{LF, CR, comma, beginsWith, inFront, linesOf, fieldsOf}
 use Rattle.texts.specs.Rest.{firstPart, otherParts, restOfLine, linesBehind, restOfField, fieldsBehind}
 
@@ -94,6 +97,94 @@ module _ (byte : ℕ) (text : List ℕ) (no-LF : byte ≡ LF → ⊥) (no-end : 
   fields-stay-behind no-comma =
       ap (λ line. otherParts (fieldsOf line)) line-goes-on ∙ ap otherParts (stays-in-field byte (restOfLine text) no-comma) ∙ others-in-front byte (fieldsOf (restOfLine text))
 
+-- what stands at the front of a text: the end of a line, or one more byte of it
+pub data Next (text : List ℕ) : Type 0 where
+  line-ends : restOfLine text ≡ [] → Next text
+  line-goes : (byte : ℕ) (others : List ℕ) → text ≡ byte ∷ others → (byte ≡ LF → ⊥) → (byte ≡ CR → beginsWith LF others ≡ false) → Next text
+
+-- an LF ends the line
+LF-ends-line : (text : List ℕ) → beginsWith LF text ≡ true → restOfLine text ≡ []
+unfolding linesOf
+LF-ends-line [] begins = absurd (T-false false refl (T-true false begins))
+LF-ends-line (byte ∷ text) begins = rw (begins, linesOf)
+
+-- a CR before it belongs to the line's end
+CR-before-LF : (text : List ℕ) → beginsWith LF text ≡ true → linesOf (CR ∷ text) ≡ linesOf text
+unfolding linesOf
+CR-before-LF text begins = rw (begins, linesOf)
+
+pub next-of : (text : List ℕ) → Next text
+unfolding linesOf
+next-of [] = line-ends refl
+next-of (byte ∷ text) = go (eqb byte LF) refl (beginsWith LF text) refl
+  where
+    go : (is-LF : Bool) → eqb byte LF ≡ is-LF → (before-LF : Bool) → beginsWith LF text ≡ before-LF → Next (byte ∷ text)
+    go true is-LF before-LF same = line-ends (rw (is-LF, linesOf))
+    go false is-LF false same = line-goes byte text refl (eqb-false byte LF is-LF) (λ is-CR. same)
+    go false is-LF true same = ended (eqb byte CR) refl
+      where
+        ended : (ends : Bool) → eqb byte CR ≡ ends → Next (byte ∷ text)
+        ended true ends = line-ends (ap (λ x. restOfLine (x ∷ text)) (eqb-true byte CR ends) ∙ ap firstPart (CR-before-LF text same) ∙ LF-ends-line text same)
+        ended false ends = line-goes byte text refl (eqb-false byte LF is-LF) (λ is-CR. absurd (eqb-false byte CR ends is-CR))
+
+-- no byte comes first in nothing
+nothing-begins : {byte : ℕ} {others : List ℕ} → _≡_ {A = List ℕ} [] (byte ∷ others) → ⊥
+nothing-begins {others = others} same = let z : 0 ≡ suc (length others) = ap length same in omega arith
+
+-- a comma ends its field, and the fields behind it are those of the rest of the line
+pub comma-ends-field : (text : List ℕ) → restOfField (comma ∷ text) ≡ []
+unfolding fieldsOf
+comma-ends-field text = ap (λ line. firstPart (fieldsOf line)) (line-goes-on comma text (λ same. omega arith) (λ same. absurd (omega arith)))
+
+pub fields-behind-comma : (text : List ℕ) → fieldsBehind (comma ∷ text) ≡ fieldsOf (restOfLine text)
+unfolding fieldsOf
+fields-behind-comma text = ap (λ line. otherParts (fieldsOf line)) (line-goes-on comma text (λ same. omega arith) (λ same. absurd (omega arith)))
+
+-- a byte of a line, by whether it is a comma
+byte-of-line :
+    (P : Type 0) (byte : ℕ) (text : List ℕ) → (byte ≡ LF → ⊥) → (byte ≡ CR → beginsWith LF text ≡ false)
+    → (byte ≡ comma → P) → ((byte ≡ comma → ⊥) → restOfField (byte ∷ text) ≡ byte ∷ restOfField text → P)
+    → P
+byte-of-line P byte text no-LF no-end is-comma is-other = go (eqb byte comma) refl
+  where
+    go : (same : Bool) → eqb byte comma ≡ same → P
+    go true same = is-comma (eqb-true byte comma same)
+    go false same = let other = eqb-false byte comma same in is-other other (field-goes-on byte text no-LF no-end other)
+
+-- the rest of a field begins with the byte at the front
+pub first-of-field : (text : List ℕ) (byte : ℕ) (others : List ℕ) → restOfField text ≡ byte ∷ others → (more : List ℕ) × (text ≡ byte ∷ more)
+unfolding fieldsOf
+first-of-field text byte others begins = go (next-of text)
+  where
+    go : Next text → (more : List ℕ) × (text ≡ byte ∷ more)
+    go (line-ends ended) = absurd (nothing-begins (sym (ap (λ line. firstPart (fieldsOf line)) ended) ∙ begins))
+    go (line-goes first more is-text no-LF no-end) =
+        let rest = sym (ap restOfField is-text) ∙ begins in
+        byte-of-line ((more : List ℕ) × (text ≡ byte ∷ more)) first more no-LF no-end
+        (λ is-comma. absurd (nothing-begins (sym (comma-ends-field more) ∙ ap (λ x. restOfField (x ∷ more)) (sym is-comma) ∙ rest)))
+        (λ other goes-on. (more, is-text ∙ ap (λ x. x ∷ more) (ap (λ field. getD field 0 0) (sym goes-on ∙ rest))))
+
+-- where a field has ended and no comma stands, there are no more fields
+pub no-comma-no-fields : (text : List ℕ) → beginsWith comma text ≡ false → restOfField text ≡ [] → fieldsBehind text ≡ []
+unfolding fieldsOf
+no-comma-no-fields text no-comma field-ended = go (next-of text)
+  where
+    go : Next text → fieldsBehind text ≡ []
+    go (line-ends ended) = ap (λ line. otherParts (fieldsOf line)) ended
+    go (line-goes first more is-text no-LF no-end) =
+        byte-of-line (fieldsBehind text ≡ []) first more no-LF no-end
+        (λ is-comma. absurd (eqb-false first comma (ap (beginsWith comma) (sym is-text) ∙ no-comma) is-comma))
+        (λ other goes-on. absurd (nothing-begins (sym field-ended ∙ ap restOfField is-text ∙ goes-on)))
+
+-- where the line goes on, the field has not ended or there are more
+pub line-not-ended : (byte : ℕ) (text : List ℕ) → (byte ≡ LF → ⊥) → (byte ≡ CR → beginsWith LF text ≡ false) → restOfField (byte ∷ text) ≡ [] → fieldsBehind (byte ∷ text) ≡ [] → ⊥
+line-not-ended byte text no-LF no-end ended none =
+    byte-of-line ⊥ byte text no-LF no-end
+    (λ is-comma.
+    let no-fields = sym (some-field (restOfLine text)) ∙ sym (fields-behind-comma text) ∙ ap (λ x. fieldsBehind (x ∷ text)) (sym is-comma) ∙ none in
+    let z : suc (length (otherParts (fieldsOf (restOfLine text)))) ≡ 0 = ap length no-fields in omega arith)
+    (λ other goes-on. nothing-begins (sym ended ∙ goes-on))
+
 -- bytes that are a field's own, in front of a text: they are in front of the rest of its field, and nothing behind that changes
 pub record InField (bytes text : List ℕ) : Type 0 where
   pub in-line : restOfLine (bytes ++ text) ≡ bytes ++ restOfLine text
@@ -113,3 +204,21 @@ ordinary-in-field (byte ∷ bytes) text ordinary =
       in-field = field-goes-on byte (bytes ++ text) no-LF no-end (ordinary .0 .no-comma) ∙ ap (λ rest. byte ∷ rest) (others .in-field);
       same-fields = fields-stay-behind byte (bytes ++ text) no-LF no-end (ordinary .0 .no-comma) ∙ others .same-fields;
     }
+
+-- a line's end in front of a text: nothing of the line is left, and its lines are the lines behind
+pub record LineEnds (text behind : List ℕ) : Type 0 where
+  pub field-ends : restOfField text ≡ []
+  pub no-fields : fieldsBehind text ≡ []
+  pub lines-follow : linesBehind text ≡ linesOf behind
+
+pub text-ends : LineEnds [] []
+unfolding linesOf fieldsOf
+text-ends = record { field-ends = refl; no-fields = refl; lines-follow = refl }
+
+pub LF-ends : (text : List ℕ) → LineEnds (LF ∷ text) text
+unfolding linesOf fieldsOf
+LF-ends text = record { field-ends = refl; no-fields = refl; lines-follow = refl }
+
+pub CR-LF-ends : (text : List ℕ) → LineEnds (CR ∷ (LF ∷ text)) text
+unfolding linesOf fieldsOf
+CR-LF-ends text = record { field-ends = refl; no-fields = refl; lines-follow = refl }

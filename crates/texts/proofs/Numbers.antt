@@ -4,7 +4,7 @@ use Prim.Native.Nat.{ℕ, _+_, _-_, _*_}
 use native.Mathlib.Omega.{arith}
 use mathlib.Core.Bool.{Bool, true, false}
 use mathlib.Core.List.{List, [], _∷_, _++_, append-nil}
-use mathlib.Core.Option.{none, some, IsSome}
+use mathlib.Core.Option.{Option, none, some, IsSome, Option·some-injective, Option·none-ne-some}
 use lib.Dec.{leb, leb→le}
 use borrow.Author.Tests.{le-leb}
 use Rattle.theory.specs.Gather.{All}
@@ -27,6 +27,19 @@ pub digits-in-front : (n : ℕ) (digits bytes : List ℕ) → All IsDigit digits
 unfolding numberFrom decimalFrom
 digits-in-front n [] bytes are-digits = refl
 digits-in-front n (digit ∷ digits) bytes are-digits = rw (digit-passes digit (are-digits .0), numberFrom) (digits-in-front _ digits bytes (are-digits .1))
+
+-- bytes behind those of a number go on with it
+pub number-goes-on : (n m : ℕ) (bytes others : List ℕ) → numberFrom n bytes ≡ some m → numberFrom n (bytes ++ others) ≡ numberFrom m others
+unfolding numberFrom
+number-goes-on n m [] others is-number = ap (λ so-far. numberFrom so-far others) (Option·some-injective n m is-number)
+number-goes-on n m (byte ∷ bytes) others is-number = go (isDigit byte) is-number (number-goes-on (n * 10 + (byte - 48)) m bytes others)
+  where
+    go :
+        (passes : Bool) → _≡_ {A = Option ℕ} (elim passes [ true ↦ numberFrom (n * 10 + (byte - 48)) bytes | false ↦ none ]) (some m)
+        → (numberFrom (n * 10 + (byte - 48)) bytes ≡ some m → numberFrom (n * 10 + (byte - 48)) (bytes ++ others) ≡ numberFrom m others)
+        → elim passes [ true ↦ numberFrom (n * 10 + (byte - 48)) (bytes ++ others) | false ↦ none ] ≡ numberFrom m others
+    go true is-number goes-on = goes-on is-number
+    go false is-number goes-on = absurd (Option·none-ne-some m is-number)
 
 -- the bytes of a number are digits
 pub number-of-digits : (n : ℕ) (bytes : List ℕ) → IsSome (numberFrom n bytes) → All IsDigit bytes

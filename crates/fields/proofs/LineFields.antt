@@ -1,0 +1,67 @@
+-- A line by its three fields: a row, the header, or neither.
+use mathlib.Core.Path.{_≡_, refl}
+use Prim.Native.Nat.{ℕ, _≤_, _<_}
+use native.Mathlib.Omega.{arith}
+use mathlib.Core.Bool.{true, false}
+use mathlib.Core.List.{List, [], _∷_}
+use mathlib.Core.Option.{Option, none, some, IsSome}
+use lib.ListN.{length, drop}
+use Rattle.listing.specs.Listing.{ascii}
+use Rattle.texts.specs.Text.{fieldsOf, held, numberIn, rowIn, names, hold}
+use Rattle.texts.specs.Rest.{restOfLine, restOfField}
+use Rattle.texts.proofs.ThreeFields.{three-numbers-row, no-row, three-names-held, names-not-held}
+use Rattle.fields.specs.declared.Place.{Place}
+use Rattle.fields.specs.declared.Place.the-variants.{At, Nowhere}
+use Rattle.fields.specs.declared.Behind.the-variants.{Comma, LineEnd}
+use Rattle.fields.specs.Found.{IsNumber, Held, Followed, NotFollowed, RowAt, IsNameThen, IsHeader}
+use Rattle.fields.proofs.Followed.{NotThree, not-first, not-second, not-third, all-three, lines-left}
+
+-- the number that is there
+number-there : (found : Option ℕ) → IsSome found → (n : ℕ) × (found ≡ some n)
+number-there none some-number = absurd some-number
+number-there (some n) some-number = (n, refl)
+
+module _ (text : List ℕ) (at : ℕ) where
+  -- a line with a field that is not so is no row
+  pub not-a-row : NotThree IsNumber IsNumber IsNumber text at → rowIn (fieldsOf (restOfLine (drop at text))) ≡ none
+  not-a-row = no-row (fieldsOf (restOfLine (drop at text)))
+
+  -- three numbers with commas between and a line's end behind are one
+  pub row-found :
+      {second third next c d t : ℕ} (is-c : Followed IsNumber Comma text at second × Held text at c) (is-d : Followed IsNumber Comma text second third × Held text second d)
+      → Followed IsNumber LineEnd text third next × Held text third t
+      → RowAt text at c d t next
+  row-found {second} {third} is-c is-d is-t =
+      let c = number-there (numberIn (held (restOfField (drop at text)))) (is-c .0 .right) in
+      let d = number-there (numberIn (held (restOfField (drop second text)))) (is-d .0 .right) in
+      let t = number-there (numberIn (held (restOfField (drop third text)))) (is-t .0 .right) in
+      record {
+        row = record { C = c .0; D = d .0; T = t .0 };
+        is-row = three-numbers-row (all-three IsNumber IsNumber IsNumber text (is-c .0) (is-d .0) (is-t .0)) (c .1) (d .1) (t .1);
+        c-held = is-c .1 (c .0) (c .1);
+        d-held = is-d .1 (d .0) (d .1);
+        t-held = is-t .1 (t .0) (t .1);
+        lines-follow = lines-left IsNumber IsNumber IsNumber text (is-c .0) (is-d .0) (is-t .0);
+        inside = is-t .0 .inside;
+        further = omega (arith, is-c .0 .further, is-d .0 .further, is-t .0 .further);
+      }
+
+-- a field that holds a name
+abbrev pub Named : List ℕ → List ℕ → Type 0
+Named name bytes = bytes ≡ name
+
+module _ (text : List ℕ) where
+  -- a line with a field that is not so is no header
+  pub not-the-header : NotThree (Named (ascii "wcet")) (Named (ascii "deadline")) (Named (ascii "period")) text 0 → hold (fieldsOf (restOfLine text)) names ≡ false
+  unfolding names
+  not-the-header others = names-not-held (ascii "wcet") (ascii "deadline") (ascii "period") (fieldsOf (restOfLine text)) others
+
+  -- the names of the header, as they have to stand
+  pub header-found :
+      {second third : ℕ} → Followed (Named (ascii "wcet")) Comma text 0 second → Followed (Named (ascii "deadline")) Comma text second third
+      → (place : Place) → IsNameThen LineEnd (ascii "period") text third place
+      → IsHeader text place
+  unfolding names
+  header-found one two (At next) three =
+      (three-names-held (all-three _ _ _ text one two three) (one .right) (two .right) (three .right), lines-left _ _ _ text one two three, omega (arith, one .further, two .further, three .further), three .inside)
+  header-found one two Nowhere wrong = not-the-header (not-third (Named (ascii "wcet")) (Named (ascii "deadline")) (Named (ascii "period")) text one two wrong)
