@@ -1,5 +1,5 @@
 -- A field and what stands behind it; three of them are a line.
-use mathlib.Core.Path.{_≡_, refl, sym, ap, subst, _∙_}
+use mathlib.Core.Path.{_≡_, sym, ap, subst, _∙_}
 use Prim.Native.Nat.{ℕ, suc}
 use native.Mathlib.Omega.{arith}
 use mathlib.Core.List.{List, [], _∷_}
@@ -11,7 +11,7 @@ use Rattle.fields.specs.declared.Place.{Place}
 use Rattle.fields.specs.declared.Place.the-variants.{At, Nowhere}
 use Rattle.fields.specs.declared.Behind.{Behind}
 use Rattle.fields.specs.declared.Behind.the-variants.{Comma, LineEnd}
-use Rattle.fields.specs.Found.{EndsAt, Wrong, Follow, IsBetween, Between, Followed, NotFollowed, IsNameThen}
+use Rattle.fields.specs.Found.{EndsAt, Follow, IsBetween, Between, Followed, NotFollowed, IsNameThen}
 
 module _ (Right : List ℕ → Type 0) (behind : Behind) (text : List ℕ) (at end : ℕ) (ends : EndsAt Right text at end) where
   -- a right field, and what has to stand behind it

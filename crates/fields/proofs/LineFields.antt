@@ -1,11 +1,11 @@
 -- A line by its three fields: a row, the header, or neither.
 use mathlib.Core.Path.{_≡_, refl}
-use Prim.Native.Nat.{ℕ, _≤_, _<_}
+use Prim.Native.Nat.{ℕ}
 use native.Mathlib.Omega.{arith}
-use mathlib.Core.Bool.{true, false}
-use mathlib.Core.List.{List, [], _∷_}
+use mathlib.Core.Bool.{false}
+use mathlib.Core.List.{List}
 use mathlib.Core.Option.{Option, none, some, IsSome}
-use lib.ListN.{length, drop}
+use lib.ListN.{drop}
 use Rattle.listing.specs.Listing.{ascii}
 use Rattle.texts.specs.Text.{fieldsOf, held, numberIn, rowIn, names, hold}
 use Rattle.texts.specs.Rest.{restOfLine, restOfField}
@@ -13,8 +13,8 @@ use Rattle.texts.proofs.ThreeFields.{three-numbers-row, no-row, three-names-hel
 use Rattle.fields.specs.declared.Place.{Place}
 use Rattle.fields.specs.declared.Place.the-variants.{At, Nowhere}
 use Rattle.fields.specs.declared.Behind.the-variants.{Comma, LineEnd}
-use Rattle.fields.specs.Found.{IsNumber, Held, Followed, NotFollowed, RowAt, IsNameThen, IsHeader}
-use Rattle.fields.proofs.Followed.{NotThree, not-first, not-second, not-third, all-three, lines-left}
+use Rattle.fields.specs.Found.{IsNumber, Held, Followed, RowAt, IsNameThen, IsHeader}
+use Rattle.fields.proofs.Followed.{NotThree, not-third, all-three, lines-left}
 
 -- the number that is there
 number-there : (found : Option ℕ) → IsSome found → (n : ℕ) × (found ≡ some n)

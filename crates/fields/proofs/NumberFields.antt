@@ -1,8 +1,7 @@
 -- A field of digits, and one of a name, by what was found of its content.
 use mathlib.Core.Path.{_≡_, refl, sym, ap, subst, _∙_}
-use Prim.Native.Nat.{ℕ, suc, _+_, _≤_, _<_}
+use Prim.Native.Nat.{ℕ, _+_, _≤_, _<_}
 use native.Mathlib.Omega.{arith}
-use mathlib.Core.Bool.{true, false}
 use mathlib.Core.List.{List, [], _∷_, _++_}
 use mathlib.Core.Option.{some, IsSome, Option·some-injective}
 use lib.Dec.{eqb}
@@ -12,8 +11,7 @@ use borrow.Author.Tests.{eq-eqb}
 use Rattle.theory.specs.Gather.{All}
 use Rattle.theory.proofs.Each.{T-true, T-false, all-map, all-append-split}
 use Rattle.listing.proofs.Decimal.{IsDigit}
-use Rattle.texts.specs.Text.{quote, isDigit, beginsWith, held, numberFrom, numberIn}
-use Rattle.texts.specs.Rest.{restOfField}
+use Rattle.texts.specs.Text.{quote, isDigit, beginsWith, numberFrom, numberIn}
 use Rattle.texts.proofs.Numbers.{digit-passes, number-of-digits, no-number, quote-in-no-number}
 use Rattle.fields.specs.declared.Place.{Place}
 use Rattle.fields.specs.declared.Place.the-variants.{At, Nowhere}

@@ -1,11 +1,11 @@
 -- What stands behind a field: a comma, a line's end, or neither.
-use mathlib.Core.Path.{_≡_, refl, sym, ap, subst, _∙_}
+use mathlib.Core.Path.{_≡_, sym, ap, _∙_}
 use Prim.Native.Nat.{ℕ, _+_, _≤_, _<_}
 use native.Mathlib.Omega.{arith}
 use mathlib.Core.Bool.{true, false}
-use mathlib.Core.List.{List, [], _∷_}
+use mathlib.Core.List.{List, []}
 use lib.ListN.{length, getD, drop, drop-of-length-le}
-use Rattle.texts.specs.Text.{LF, CR, comma, beginsWith, linesOf}
+use Rattle.texts.specs.Text.{LF, CR, comma, beginsWith}
 use Rattle.texts.specs.Rest.{linesBehind, restOfField, fieldsBehind}
 use Rattle.texts.proofs.Lines.{lines-stay-behind, comma-ends-field, fields-behind-comma, no-comma-no-fields, line-not-ended, LineEnds, text-ends, LF-ends, CR-LF-ends}
 use Rattle.fields.specs.declared.Behind.the-variants.{Comma, LineEnd}

@@ -1,11 +1,10 @@
 -- The fields and lines of a text as the code finds them from a place on: what is there, and where it goes on.
 use mathlib.Core.Path.{_≡_}
 use Prim.Native.Nat.{ℕ, _+_, _≤_, _<_, min}
-use mathlib.Core.Bool.{Bool, true, false}
+use mathlib.Core.Bool.{true, false}
 use mathlib.Core.List.{List, [], _∷_, _++_}
-use mathlib.Core.Option.{Option, none, some, IsSome}
+use mathlib.Core.Option.{none, some, IsSome}
 use lib.ListN.{length, getD, take, drop}
-use Rattle.theory.specs.Gather.{All}
 use Rattle.theory.specs.Row.{Row}
 use Rattle.texts.specs.Text.{LF, CR, quote, comma, isDigit, beginsWith, linesOf, fieldsOf, held, numberFrom, numberIn, rowIn, names, hold}
 use Rattle.texts.specs.Rest.{restOfLine, linesBehind, restOfField, fieldsBehind}

@@ -28,6 +28,10 @@ tableFrom cores rows =
 unfoldable pub inRowsPlace : ℕ → ℕ
 inRowsPlace line = min line 4_294_967_295
 
--- a text: a line that is not of the form (9), over the whole text first
+-- what a text is, on a number of cores: a line that is not of the form (9), over the whole text first
+unfoldable pub onCores : ℕ → Text → Reading
+onCores cores (of-rows all) = tableFrom cores all
+onCores cores (not-of-the-form line) = refused 9 (inRowsPlace line)
+
 unfoldable pub readText : ℕ → List ℕ → Reading
-readText cores text = elim (textOf text) [ of-rows all ↦ tableFrom cores all | not-of-the-form line ↦ refused 9 (inRowsPlace line) ]
+readText cores text = onCores cores (textOf text)

@@ -3,7 +3,7 @@ use native.Mathlib.Omega.{arith}
 use mathlib.Core.Path.{subst}
 use borrow.Author.Needs.{needs}
 use Rattle.listing.specs.Listing.{ascii}
-use Rattle.fields.specs.declared.Behind.the-variants.{Comma, LineEnd}
+use Rattle.fields.specs.declared.Behind.the-variants.{Comma}
 use Rattle.fields.specs.Found.{IsNameThen}
 use Rattle.fields.proofs.Followed.{not-first, not-second}
 use Rattle.fields.proofs.LineFields.{Named, not-the-header, header-found}

@@ -1,0 +1,2 @@
+-- The rows of a text as the code takes them, one by one.
+pub mod Judging
