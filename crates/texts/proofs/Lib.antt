@@ -1,2 +1,4 @@
 -- Laws of texts.
 pub mod Scratch
+pub mod Reading
+pub mod Longest
