@@ -1,4 +1,5 @@
 -- Laws of texts.
 pub mod Scratch
 pub mod Reading
+pub mod Refused
 pub mod Longest
