@@ -49,13 +49,19 @@ text-read cores text = go (textOf text)
     go (of-rows all) = table-from cores all
     go (not-of-the-form line) = number-9 line
 
-bounds : {number row : ℕ} → TableOr2349 (refused number row) → (2 ≤ number) × (number ≤ 9) × (row < 2 ^ 32)
-unfolding inRowsPlace
-bounds number-2 = (omega arith, omega arith, omega arith)
-bounds number-3 = (omega arith, omega arith, omega arith)
-bounds (number-4 row few) = (omega arith, omega arith, omega arith)
-bounds (number-9 line) = (omega arith, omega arith, omega arith)
+-- the refusals of reading, by number and row
+pub record RefusedText (number row : ℕ) : Type 0 where
+  pub from-2 : 2 ≤ number
+  pub to-9 : number ≤ 9
+  pub none-from-5-to-8 : 5 ≤ number → number ≡ 9
+  pub row-fits : row < 2 ^ 32
 
--- the number of a refusal of reading is from 2 to 9, and its row or line has 32 bits
-pub refused-from-2-to-9 : (cores : ℕ) (text : List ℕ) (number row : ℕ) → readText cores text ≡ refused number row → (2 ≤ number) × (number ≤ 9) × (row < 2 ^ 32)
-refused-from-2-to-9 cores text number row is-refused = bounds (subst TableOr2349 is-refused (text-read cores text))
+bounds : {number row : ℕ} → TableOr2349 (refused number row) → RefusedText number row
+unfolding inRowsPlace
+bounds number-2 = record { from-2 = omega arith; to-9 = omega arith; none-from-5-to-8 = λ large. absurd (omega arith); row-fits = omega arith }
+bounds number-3 = record { from-2 = omega arith; to-9 = omega arith; none-from-5-to-8 = λ large. absurd (omega arith); row-fits = omega arith }
+bounds (number-4 row few) = record { from-2 = omega arith; to-9 = omega arith; none-from-5-to-8 = λ large. absurd (omega arith); row-fits = omega arith }
+bounds (number-9 line) = record { from-2 = omega arith; to-9 = omega arith; none-from-5-to-8 = λ large. refl; row-fits = omega arith }
+
+pub text-refused : (cores : ℕ) (text : List ℕ) (number row : ℕ) → readText cores text ≡ refused number row → RefusedText number row
+text-refused cores text number row is-refused = bounds (subst TableOr2349 is-refused (text-read cores text))
