@@ -47,14 +47,17 @@ module _ {one two three four : List ℕ} where
   unfolding refusal ascii
   refusal-written number row w x y z = simp (z, y, x, w, append-assoc)
 
+-- where lines stand written and a line and more are left of the whole, the line written leaves the rest
+pub one-line-more : (front line rest : List ℕ) {whole next : List ℕ} → front ++ (line ++ rest) ≡ whole → next ≡ front ++ line → next ++ rest ≡ whole
+one-line-more front line rest left is-next = rw (is-next, append-assoc) left
+
 -- the lines of the rows, where those before row i stand written and those from row i on are left
 module _ (cores responses allowances front : List ℕ) (i : ℕ) {whole : List ℕ} (left : front ++ linesFrom cores responses allowances i ≡ whole) where
   -- one row more
   pub one-row-more : i < length cores → i < length responses → i < length allowances
       → {next : List ℕ} → next ≡ front ++ rowLine (i + 1) (record { core = getD cores i 0; response = getD responses i 0; allowance = getD allowances i 0 })
       → next ++ linesFrom cores responses allowances (i + 1) ≡ whole
-  one-row-more in-cores in-responses in-allowances row =
-      rw (row, append-assoc, ← lines-from-row cores responses allowances i in-cores in-responses in-allowances) left
+  one-row-more in-cores in-responses in-allowances = one-line-more front _ _ (rw (lines-from-row cores responses allowances i in-cores in-responses in-allowances) at left)
 
   -- past the last row all are written
   pub rows-written : length cores ≤ i → front ≡ whole

@@ -14,7 +14,7 @@ use answers::Answer;
 const HEADER: [u8; 28] = *b"row core response allowance\n";
 
 // Writes bytes as they are.
-fn write_bytes(text: &mut [u8], at: usize, part: &[u8]) -> usize
+pub fn write_bytes(text: &mut [u8], at: usize, part: &[u8]) -> usize
     requires { ⌜ at + length (now part) ≤ length (now text) ⌝ }
     ensures { λ r. ⌜ (take r (now (text .exit)) ≡ take at (now (text .entry)) ++ now (part .entry)) × (r ≡ at + length (now (part .entry))) ⌝ }
 {
@@ -23,7 +23,7 @@ fn write_bytes(text: &mut [u8], at: usize, part: &[u8]) -> usize
 }
 
 // Writes a number in decimal digits and one byte behind it. The digits are found from the last to the first.
-fn write_number(text: &mut [u8], at: usize, n: u32, behind: u8) -> usize
+pub fn write_number(text: &mut [u8], at: usize, n: u32, behind: u8) -> usize
     requires { ⌜ at + 11 ≤ length (now text) ⌝ }
     ensures { λ r. ⌜ (take r (now (text .exit)) ≡ take at (now (text .entry)) ++ (decimal n ++ (behind ∷ []))) × (r ≤ at + 11) ⌝ }
 {

@@ -7,7 +7,7 @@ use lib.ListN.{length, length-append}
 use Rattle.placement.specs.Core.{Table}
 use Rattle.placement.specs.Figures.{Figures}
 use Rattle.records.specs.Number.{fourBytes}
-use Rattle.records.specs.Report.{rowRecord, figuresRecord, tableRecords, reportBytes, reportLength}
+use Rattle.records.specs.Report.{rowRecord, figuresRecord, countRecord, tableRecords, tableBytes, reportBytes, reportLength}
 
 -- as many bytes for each of a list
 pub flat-map-length : {A : Type 0} (bytes : A → List ℕ) (n : ℕ) → ((a : A) → length (bytes a) ≡ n) → (xs : List A) → length (flatMap bytes xs) ≡ n * length xs
@@ -19,6 +19,11 @@ flat-map-length bytes n each (x ∷ xs) = omega (arith, length-append (bytes x) 
 pub table-records-length : (t : Table) → length (tableRecords t) ≡ 2 + 13 * length (t .rows)
 unfolding tableRecords fourBytes
 table-records-length t = omega (arith, flat-map-length rowRecord 13 (λ row. refl) (t .rows))
+
+-- a table has 4 + 13n bytes
+pub table-bytes-length : (t : Table) → length (tableBytes t) ≡ 4 + 13 * length (t .rows)
+unfolding tableBytes
+table-bytes-length t = omega (arith, length-append (tableRecords t) (countRecord (t .rows)), table-records-length t)
 
 -- kind 3 records: 10 bytes for each row
 pub figures-records-length : (all : List Figures) → length (flatMap figuresRecord all) ≡ 10 * length all

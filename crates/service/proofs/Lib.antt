@@ -1,3 +1,6 @@
--- Laws of the table service's promise.
+-- Laws of what the services promise.
+pub mod Determined
 pub mod Table
 pub mod Copied
+pub mod Text
+pub mod SameCertificate

@@ -1,1 +1,1 @@
-// The table service, from table bytes to report bytes and to the listing: its promise, as definitions in `specs/`.
+// What the services on table bytes and on a sheet's text promise, as definitions in `specs/`.

@@ -1,34 +1,19 @@
 -- NO LISTING IS LONGER THAN 1102 BYTES, and none is empty: with so many bytes lent the lines of every table are written.
 use mathlib.Core.Path.{refl, sym, subst}
-use Prim.Native.Nat.{ℕ, _≤_, _<_}
+use Prim.Native.Nat.{ℕ, _≤_}
 use mathlib.Core.List.{List}
 use native.Mathlib.Omega.{arith}
 use lib.ListN.{length, take, drop, length-append}
 use lib.Seq.{take-at}
 use Rattle.placement.specs.Choice.{Rule}
-use Rattle.placement.specs.Core.{Table}
-use Rattle.placement.specs.Figures.{Figures, figuresAt, Certified}
 use Rattle.placement.proofs.Moment.{underway}
-use Rattle.placement.proofs.Certified.{certified-in-time}
-use Rattle.records.specs.Reading.{TableWithin}
 use Rattle.records.proofs.Reading.{read-table-within}
 use Rattle.records.proofs.Refused.{refused-from-1-to-5}
 use Rattle.listing.specs.Listing.{ascii, listing, refusal}
 use Rattle.listing.proofs.Header.{header-line-length}
-use Rattle.listing.proofs.Longest.{TenDigits, listing-length, refusal-length}
+use Rattle.listing.proofs.Longest.{listing-length, refusal-length}
+use Rattle.certifying.proofs.Small.{certified-digits}
 use Rattle.service.specs.Table.{Listed, ListingAnswered}
-use Rattle.tables.proofs.SameReport.{certified-fit}
-
--- the figures of a table have ten digits at most
-certified-digits : (rule : Rule) (t : Table) (all : List Figures) → TableWithin t → Certified rule t all → (i : ℕ) → i < length all → TenDigits (figuresAt all i)
-certified-digits rule t all within c i inside =
-    let in-table : i < length (t .rows) = omega (arith, c .are-figures .one-each) in
-    let fit = certified-fit rule t all (within .rows-within) c i inside in
-    record {
-      core-below = omega (arith, certified-in-time rule t all c i in-table .on-table, c .are-figures .right i in-table .its-core, within .no-9th-core);
-      response-below = omega (arith, fit .response-below);
-      allowance-below = omega (arith, fit .allowance-below);
-    }
 
 module _ {rule : Rule} {bytes : List ℕ} where
   pub listed-length : {lines : List ℕ} → Listed rule bytes lines → length lines ≤ 1102

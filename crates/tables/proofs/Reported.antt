@@ -3,7 +3,7 @@ use mathlib.Core.Path.{_≡_, sym, ap, _∙_}
 use Prim.Native.Nat.{ℕ, _+_, _*_, _≤_, _<_}
 use mathlib.Core.List.{List, [], _∷_, _++_, flatMap}
 use native.Mathlib.Omega.{arith}
-use lib.ListN.{length, getD, take, length-append}
+use lib.ListN.{length, getD, take}
 use lib.Seq.{take-at}
 use Rattle.placement.specs.Core.{Table}
 use Rattle.placement.specs.Choice.{allowanceFit}
@@ -14,7 +14,7 @@ use Rattle.records.specs.Reading.{readTable, table}
 use Rattle.records.specs.Report.{figuresRecord, countRecord, tableRecords, tableBytes, reportBytes}
 use Rattle.records.proofs.Number.{AllBelow}
 use Rattle.records.proofs.Reading.{read-from-own-bytes}
-use Rattle.records.proofs.Lengths.{table-records-length}
+use Rattle.records.proofs.Lengths.{table-records-length, table-bytes-length}
 
 -- the bytes of a table begin with its kind 1 and kind 2 records
 pub records-in-front : (bytes : List ℕ) (t : Table) → AllBelow 256 bytes → readTable bytes ≡ table t → take (2 + 13 * length (t .rows)) bytes ≡ tableRecords t
@@ -23,11 +23,9 @@ records-in-front bytes t below is-table =
     ap (take (2 + 13 * length (t .rows))) (read-from-own-bytes bytes t below is-table)
     ∙ take-at (tableRecords t) (countRecord (t .rows)) (2 + 13 * length (t .rows)) (table-records-length t)
 
--- a table of n rows has 4 + 13n bytes
+-- a table of n rows was read from 4 + 13n bytes
 pub table-length : (bytes : List ℕ) (t : Table) (n : ℕ) → AllBelow 256 bytes → readTable bytes ≡ table t → length (t .rows) ≡ n → length bytes ≡ 4 + 13 * n
-unfolding tableBytes
-table-length bytes t n below is-table many =
-    ap length (read-from-own-bytes bytes t below is-table) ∙ omega (arith, length-append (tableRecords t) (countRecord (t .rows)), table-records-length t)
+table-length bytes t n below is-table many = ap length (read-from-own-bytes bytes t below is-table) ∙ omega (arith, table-bytes-length t)
 
 -- with a kind 3 for each row and kind 4 behind them, they are the report
 pub report-of-records : (bytes : List ℕ) (t : Table) (all : List Figures) (n : ℕ) → AllBelow 256 bytes → readTable bytes ≡ table t → length (t .rows) ≡ n

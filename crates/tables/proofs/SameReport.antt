@@ -1,12 +1,12 @@
 -- An accepted report tells its table and its figures: two accepted calls that end with the same bytes had the same table, and found the same figures.
 use mathlib.Core.Path.{_≡_, refl, sym, ap, _∙_}
-use Prim.Native.Nat.{ℕ, suc, _≤_, _<_}
+use Prim.Native.Nat.{ℕ, suc, _≤_}
 use mathlib.Core.List.{List, [], _∷_, _++_, flatMap, append-assoc}
 use native.Mathlib.Omega.{arith}
 use lib.ListN.{length, take, drop}
 use lib.Seq.{take-at}
 use Rattle.theory.specs.Returned.{Returned, returned}
-use Rattle.theory.specs.Row.{Row, AllWithin}
+use Rattle.theory.specs.Row.{Row}
 use Rattle.theory.specs.Lists.{filled}
 use Rattle.placement.specs.Core.{Table}
 use Rattle.placement.specs.Choice.{Rule}
@@ -18,8 +18,8 @@ use Rattle.records.proofs.Reading.{read-table-within}
 use Rattle.records.proofs.Refused.{refused-from-1-to-5}
 use Rattle.records.proofs.Lengths.{report-length}
 use Rattle.records.proofs.Report.{report-determines-table}
-use Rattle.records.proofs.ReportFigures.{AllFitRecord, report-determines-figures}
-use Rattle.certificates.proofs.Promises.{certified-by-deadline}
+use Rattle.records.proofs.ReportFigures.{report-determines-figures}
+use Rattle.certifying.proofs.Small.{certified-fit}
 use Rattle.service.specs.Table.{TableAnswered}
 
 -- kind 2 records before a kind 3 are of one number of rows: the kind tells where they end
@@ -42,14 +42,6 @@ same-count t u (x ∷ xs) (y ∷ ys) kept lent some others-some same =
     (sym (append-assoc (flatMap rowRecord (t .rows)) (flatMap figuresRecord (x ∷ xs) ++ countRecord (t .rows)) kept)
     ∙ ap (drop 2) same
     ∙ append-assoc (flatMap rowRecord (u .rows)) (flatMap figuresRecord (y ∷ ys) ++ countRecord (u .rows)) lent)
-
--- the figures of a table within the limits are below 2^32
-pub certified-fit : (rule : Rule) (t : Table) (all : List Figures) → AllWithin (t .rows) → Certified rule t all → AllFitRecord all
-certified-fit rule t all within c i inside =
-    let in-table : i < length (t .rows) = omega (arith, inside, c .are-figures .one-each) in
-    let by-deadline = certified-by-deadline rule t all within c i in-table in
-    let limits = within i in-table in
-    record { response-below = omega (arith, by-deadline, limits .by-period, limits .by-million); allowance-below = omega (arith, by-deadline, limits .by-period, limits .by-million) }
 
 -- what an accepted call says: a table and its figures, of which it leaves the report
 pub record ReportOf (rule : Rule) (bytes report after : List ℕ) : Type 0 where

@@ -3,25 +3,8 @@ ghost use Prim.Native.Nat.{_≤_};
 ghost use lib.ListN.{length, take};
 ghost use Rattle.answers.specs.Answer.{returnedBy};
 ghost use Rattle.placement.specs.Choice.{allowanceFit};
-ghost use Rattle.records.specs.Reading.{TableWithin};
-ghost use Rattle.reading.specs.Held.{Held, heldTable};
-ghost use Rattle.certificates.specs.Held.{IsHeld};
 ghost use Rattle.service.specs.Table.{TableAnswered, Listed, ListingAnswered};
 use answers::Answer;
-use certificates::Certificate;
-use reading::Read;
-
-// The certificate of the table that was read.
-fn certificate_of(read: Read) -> Certificate
-    requires { ⌜ Held (read .n) (read .c) (read .d) (read .t) × TableWithin (heldTable read) ⌝ }
-    ensures { λ r. ⌜ IsHeld (heldTable read) r ⌝ }
-{
-    let n = read.n;
-    let c = read.c;
-    let d = read.d;
-    let t = read.t;
-    certificates::certify(read.cores, &c[..n], &d[..n], &t[..n])
-}
 
 // The table service.
 pub fn table_service(table: &[u8], report: &mut [u8]) -> Answer
@@ -36,7 +19,7 @@ pub fn table_service(table: &[u8], report: &mut [u8]) -> Answer
     if report.len() < 4 + 23 * n {
         return Answer::OutputTooShort;
     }
-    let certificate = certificate_of(read);
+    let certificate = certifying::certificate_of(read);
     let outcome = certificate.answer;
     if answers::number_of(outcome) != 0 {
         return outcome;
@@ -66,7 +49,7 @@ fn write_lines(table: &[u8], text: &mut [u8]) -> usize
         return lines::write_refusal(text, answer);
     }
     let n = read.n;
-    let certificate = certificate_of(read);
+    let certificate = certifying::certificate_of(read);
     let outcome = certificate.answer;
     if answers::number_of(outcome) != 0 {
         return lines::write_refusal(text, outcome);

@@ -12,10 +12,13 @@ use Rattle.placement.specs.Choice.{allowanceFit}
 use Rattle.records.specs.Report.{figuresRecord, reportBytes}
 use Rattle.records.proofs.Number.{AllBelow}
 use Rattle.reading.specs.Held.{heldTable}
+use Rattle.records.specs.Reading.{readTable}
+use Rattle.records.proofs.Reading.{read-table-within}
 use Rattle.reading.proofs.Answers.{read-refused}
 use Rattle.certificates.specs.Held.{heldFigures}
 use Rattle.service.specs.Table.{TableAnswered}
-use Rattle.tables.proofs.Stages.{TableRead, table-was-read, FiguresHeld, cores-front, responses-front, allowances-front, was-certified, refusal-answered}
+use Rattle.certifying.proofs.Stages.{TableRead, table-was-read, FiguresHeld, cores-front, responses-front, allowances-front, was-certified}
+use Rattle.tables.proofs.Stages.{refusal-answered}
 use Rattle.tables.proofs.Reported.{table-length, report-of-records, core-is-byte}
 use Rattle.tables.proofs.table_service.Statement.{statement}
 use Rattle.tables.proofs.table_service.Tie as tie
@@ -30,8 +33,8 @@ returns : tie.Need-returns
 returns c = TableAnswered.not-a-table _ _ (read-refused (c .before .before .read-table .ensures) (λ none. c .if1 .taken (c .before .number-of .ensures ∙ none)))
 
 -- the table that was read
-read : (c : tie.Else1) → TableRead (c .before .before .before .before .before .args .table .now) (c .before .before .read-table .result)
-read c = table-was-read (c .before .before .read-table .ensures) (sym (c .before .number-of .ensures) ∙ c .if1 .left)
+read : (c : tie.Else1) → TableRead (readTable (c .before .before .before .before .before .args .table .now)) (c .before .before .read-table .result)
+read c = table-was-read (read-table-within _) (c .before .before .read-table .ensures) (sym (c .before .number-of .ensures) ∙ c .if1 .left)
 
 -- its bytes are bytes
 below : (c : tie.Else1) → AllBelow 256 (c .before .before .before .before .before .args .table .now)

@@ -4,9 +4,12 @@ use native.Mathlib.Omega.{arith}
 use borrow.Author.Needs.{needs}
 use lib.Seq.{length-take-le}
 use Rattle.placement.specs.Choice.{allowanceFit}
+use Rattle.records.specs.Reading.{readTable}
+use Rattle.records.proofs.Reading.{read-table-within}
 use Rattle.reading.proofs.Answers.{read-refused}
 use Rattle.service.specs.Table.{Listed}
-use Rattle.tables.proofs.Stages.{TableRead, table-was-read, FiguresHeld, cores-front, responses-front, allowances-front, was-certified, refusal-listed}
+use Rattle.certifying.proofs.Stages.{TableRead, table-was-read, FiguresHeld, cores-front, responses-front, allowances-front, was-certified}
+use Rattle.tables.proofs.Stages.{refusal-listed}
 use Rattle.tables.proofs.write_lines.Statement.{statement}
 use Rattle.tables.proofs.write_lines.Tie as tie
 
@@ -29,8 +32,8 @@ returns c =
     (subst (Listed allowanceFit (c .before .before .before .before .before .before .before .before .before .args .table .now)) (sym (c .before .before .write-refusal .ensures .0)) (Listed.not-a-table _ _ refused), c .before .before .write-refusal .ensures .1)
 
 -- the table that was read
-read : (c : tie.Else1) → TableRead (c .before .before .before .before .before .args .table .now) (c .before .before .read-table .result)
-read c = table-was-read (c .before .before .read-table .ensures) (sym (c .before .number-of .ensures) ∙ c .if1 .left)
+read : (c : tie.Else1) → TableRead (readTable (c .before .before .before .before .before .args .table .now)) (c .before .before .read-table .result)
+read c = table-was-read (read-table-within _) (c .before .before .read-table .ensures) (sym (c .before .number-of .ensures) ∙ c .if1 .left)
 
 certificate-of-requires : tie.Need-certificate-of-requires
 certificate-of-requires c κs = (read c .held, read c .within)

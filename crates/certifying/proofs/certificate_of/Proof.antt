@@ -3,9 +3,9 @@ use mathlib.Core.Path.{sym}
 use native.Mathlib.Omega.{arith}
 use borrow.Author.Needs.{needs}
 use lib.Seq.{length-take-le}
-use Rattle.tables.proofs.Stages.{held-shaped}
-use Rattle.tables.proofs.certificate_of.Statement.{statement}
-use Rattle.tables.proofs.certificate_of.Tie as tie
+use Rattle.certifying.proofs.Stages.{held-shaped}
+use Rattle.certifying.proofs.certificate_of.Statement.{statement}
+use Rattle.certifying.proofs.certificate_of.Tie as tie
 
 array-share-prefix-c : tie.Need-array-share-prefix-c
 array-share-prefix-c c = search needs
