@@ -10,6 +10,7 @@ use Rattle.placement.specs.Choice.{allowanceFit}
 use Rattle.records.specs.ListBytes.{BytesAnswered}
 use Rattle.records.specs.ExplanationBytes.{BytesExplained}
 use Rattle.service.specs.Table.{TableAnswered, ListingAnswered}
+use Rattle.service.specs.Text.{TextAnswered, TextTabled}
 
 -- the table entry on table bytes and a lent report: its number, its row, and the report at the end
 abbrev pub TableReturned : List ℕ → List ℕ → ℕ → ℕ → List ℕ → Type 0
@@ -35,3 +36,11 @@ ListingReturned = ListingAnswered allowanceFit
 -- the explanation's entry on lists as bytes and the number of a row: its number, its row, the limiting row and the point
 abbrev pub WhyReturned : List ℕ → List ℕ → List ℕ → ℕ → ℕ → ℕ → ℕ → ℕ → Type 0
 WhyReturned cs ds ts asked number row limiting point = BytesExplained cs ds ts asked (returned number row) limiting point
+
+-- the entries on a sheet's text, a number of cores and lent bytes: number, row, how many bytes were written, and the lent bytes at the end; the certificate
+abbrev pub TextReturned : ℕ → List ℕ → List ℕ → ℕ → ℕ → ℕ → List ℕ → Type 0
+TextReturned cores text lent number row written lent-after = TextAnswered allowanceFit cores text lent (returned number row) written lent-after
+
+-- and the table's bytes
+abbrev pub TextTableReturned : ℕ → List ℕ → List ℕ → ℕ → ℕ → ℕ → List ℕ → Type 0
+TextTableReturned cores text lent number row written lent-after = TextTabled cores text lent (returned number row) written lent-after

@@ -1,17 +1,18 @@
-// The three services and the explanation for the front end in C, on numbers and byte strings: document 01, "What the certificate covers", and document 02, request 1. A byte string is a pointer and a length in C;
-// what C owes is that there are so many bytes, and that a lent byte string overlaps no other.
+// The services for the front end in C, on numbers and byte strings: document 01, "What the certificate covers", and document 02, requests 1 and 2. A byte string is a
+// pointer and a length in C; what C owes is that there are so many bytes, and that a lent byte string overlaps no other.
 ghost use mathlib.Core.Path.{_≡_};
 ghost use mathlib.Core.Bool.{true};
 ghost use mathlib.Core.Logic.{_↔_};
-ghost use Prim.Native.Nat.{_/_, min};
+ghost use Prim.Native.Nat.{_/_, _≤_, min};
 ghost use Rattle.answers.specs.Answer.{returnedBy, numberOf, rowOf};
 ghost use Rattle.theory.specs.Lists.{Answered};
 ghost use Rattle.records.specs.ListBytes.{BytesAnswered};
 ghost use Rattle.records.specs.ExplanationBytes.{BytesExplained};
 ghost use Rattle.entries.specs.Lists.{RowBytes, allowanceBy, AnsweredInBytes};
-ghost use Rattle.entries.specs.Entry.{TableReturned, ListsReturned, SetReturned, PointReturned, ListingReturned, WhyReturned};
+ghost use Rattle.entries.specs.Entry.{TableReturned, ListsReturned, SetReturned, PointReturned, ListingReturned, WhyReturned, TextReturned, TextTableReturned};
 use answers::Answer;
 use sets::Explanation;
+use spreadsheets::Written;
 
 // An answer as C takes it: its number and its row.
 #[repr(C)]
@@ -29,6 +30,14 @@ pub struct EntryExplanation {
     pub point: u32,
 }
 
+// What a service on a text gives as C takes it: the answer's number and row, and how many bytes were written.
+#[repr(C)]
+pub struct EntryWritten {
+    pub number: u32,
+    pub row: u32,
+    pub length: u32,
+}
+
 // How allowances are found.
 enum AllowancesBy {
     Trial,
@@ -41,6 +50,19 @@ fn entry_answer(answer: Answer) -> EntryAnswer
     EntryAnswer {
         number: answers::number_of(answer),
         row: answers::row_of(answer),
+    }
+}
+
+fn entry_written(written: Written) -> EntryWritten
+    requires { ⌜ written .length ≤ 1654 ⌝ }
+    ensures { λ r. ⌜ (r .number ≡ numberOf (written .answer)) × (r .row ≡ rowOf (written .answer)) × (r .length ≡ written .length) ⌝ }
+{
+    let given = written.answer;
+    let answer = entry_answer(given);
+    EntryWritten {
+        number: answer.number,
+        row: answer.row,
+        length: written.length as u32,
     }
 }
 
@@ -223,4 +245,20 @@ pub extern "C" fn hibalunduk_why(c: &[u8], d: &[u8], t: &[u8], row: u32) -> Entr
         limiting: explanation.limiting,
         point: explanation.point,
     }
+}
+
+// The certificate of a sheet's text on a number of cores: the text with three columns more.
+#[no_mangle]
+pub extern "C" fn hibalunduk_csv(cores: u32, text: &[u8], lent: &mut [u8]) -> EntryWritten
+    ensures { λ r. ⌜ TextReturned cores (now (text .entry)) (now (lent .entry)) (r .number) (r .row) (r .length) (now (lent .exit)) ⌝ }
+{
+    entry_written(spreadsheets::text_service(cores, text, lent))
+}
+
+// The table of a sheet's text on a number of cores, as bytes.
+#[no_mangle]
+pub extern "C" fn hibalunduk_csv_table(cores: u32, text: &[u8], lent: &mut [u8]) -> EntryWritten
+    ensures { λ r. ⌜ TextTableReturned cores (now (text .entry)) (now (lent .entry)) (r .number) (r .row) (r .length) (now (lent .exit)) ⌝ }
+{
+    entry_written(spreadsheets::table_of_text(cores, text, lent))
 }
