@@ -2,3 +2,7 @@
 pub mod Lines
 pub mod Held
 pub mod Numbers
+pub mod Whole
+pub mod Digits
+pub mod Fields
+pub mod Forms
