@@ -19,7 +19,7 @@ use Rattle.texts.proofs.Whole.{InLine, line-in-front, three-in-line, th
 use Rattle.texts.proofs.Fields.{field-holds, field-ordinary, number-field-read, number-field-ordinary}
 
 -- a name is of letters, which are a field's own
-name-ordinary : (name : List ℕ) → T (every (leb 97) name) → All Ordinary name
+pub name-ordinary : (name : List ℕ) → T (every (leb 97) name) → All Ordinary name
 name-ordinary name letters =
     all-map name
     (λ byte letter. let from-a = leb→le 97 byte letter in record { no-LF = λ e. omega arith; no-CR = λ e. omega arith; no-comma = λ e. omega arith })

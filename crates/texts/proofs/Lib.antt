@@ -6,3 +6,5 @@ pub mod Whole
 pub mod Digits
 pub mod Fields
 pub mod Forms
+pub mod Joined
+pub mod RoundTrip

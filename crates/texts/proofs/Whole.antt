@@ -7,7 +7,7 @@ use lib.ListN.{length}
 use Rattle.theory.specs.Gather.{All}
 use Rattle.theory.proofs.Each.{all-map, all-append}
 use Rattle.texts.specs.Text.{LF, CR, comma, inFront, linesOf, fieldsOf}
-use Rattle.texts.specs.Forms.{threeFields, LF-alone, CR-LF, Behind, line-end, end-of-text}
+use Rattle.texts.specs.Forms.{threeFields, LineEnd, LF-alone, CR-LF, Behind, line-end, end-of-text}
 use Rattle.texts.proofs.Lines.{Ordinary, stays-in-line, stays-in-field}
 
 -- a byte that is a line's own: of no line end
@@ -35,11 +35,16 @@ unfolding linesOf inFront
 last-line byte [] own = stays-in-line byte [] (own .0 .no-LF) (λ is-CR. refl)
 last-line byte (next ∷ line) own = in-front-of-line byte (next ∷ line) (next ∷ line) [] (own .0) (last-line next line (own .1))
 
+-- a line and its end
+pub ended-line-in-front : {end : List ℕ} (line others : List ℕ) → All InLine line → LineEnd end → linesOf (line ++ (end ++ others)) ≡ line ∷ linesOf others
+unfolding linesOf
+ended-line-in-front line others own LF-alone = before-end line (LF ∷ others) (linesOf others) own refl
+ended-line-in-front line others own CR-LF = before-end line (CR ∷ (LF ∷ others)) (linesOf others) own refl
+
 -- A LINE IN FRONT OF OTHERS, whatever stands behind it as its end
 pub line-in-front : {others rest : List ℕ} (line : List ℕ) → All InLine line → 1 ≤ length line → Behind others rest → linesOf (line ++ rest) ≡ line ∷ linesOf others
 unfolding linesOf
-line-in-front line own some (line-end others LF-alone) = before-end line (LF ∷ others) (linesOf others) own refl
-line-in-front line own some (line-end others CR-LF) = before-end line (CR ∷ (LF ∷ others)) (linesOf others) own refl
+line-in-front line own some (line-end others end) = ended-line-in-front line others own end
 line-in-front [] own some end-of-text = absurd (omega arith)
 line-in-front (byte ∷ line) own some end-of-text = rw append-nil (last-line byte line own)
 
