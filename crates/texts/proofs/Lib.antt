@@ -8,3 +8,4 @@ pub mod Fields
 pub mod Forms
 pub mod Joined
 pub mod RoundTrip
+pub mod Refused
