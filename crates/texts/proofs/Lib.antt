@@ -9,3 +9,4 @@ pub mod Forms
 pub mod Joined
 pub mod RoundTrip
 pub mod Refused
+pub mod Ends
