@@ -10,3 +10,6 @@ pub mod Joined
 pub mod RoundTrip
 pub mod Refused
 pub mod Ends
+pub mod Alike
+pub mod Starts
+pub mod FieldChanged
