@@ -3,6 +3,7 @@ pub mod Columns
 pub mod Test
 pub mod Law
 pub mod Certificate
+pub mod TextCertificate
 pub mod Explanation
 pub mod Sheets
 pub mod ShutOut
