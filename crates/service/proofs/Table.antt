@@ -1,5 +1,5 @@
 -- The table service's promise determines the answer and every byte of the report; the bench program's determines what it prints.
-use mathlib.Core.Path.{_≡_, refl, ap, subst, _∙_}
+use mathlib.Core.Path.{_≡_, refl, ap, _∙_}
 use Prim.Native.Nat.{ℕ, suc, _≤_, _<_}
 use mathlib.Core.List.{List}
 use native.Mathlib.Omega.{arith}
@@ -8,13 +8,12 @@ use Rattle.theory.specs.Returned.{Returned, returned}
 use Rattle.theory.specs.Lists.{filled}
 use Rattle.placement.specs.Core.{Table}
 use Rattle.placement.specs.Choice.{Rule, IsRule}
-use Rattle.placement.specs.Placement.{Stopped}
-use Rattle.placement.specs.Figures.{Figures, Certificate, certified, noCoreTakes, Certified, IsCertificate}
-use Rattle.placement.proofs.Determined.{certificate-unique}
-use Rattle.records.specs.Reading.{readTable, table, refused}
+use Rattle.placement.specs.Figures.{Figures}
+use Rattle.records.specs.Reading.{readTable, table}
 use Rattle.records.specs.Report.{reportBytes, reportLength}
 use Rattle.listing.specs.Listing.{listing, refusal}
 use Rattle.service.specs.Table.{TableAnswered, Listed, ListingAnswered}
+use Rattle.service.proofs.OneReading.{one-table, one-refusal, not-both, one-stop, one-list, not-certified}
 
 -- two results of the table service that are the same
 pub record Same (answer other : Returned) (report other-report : List ℕ) : Type 0 where
@@ -22,31 +21,6 @@ pub record Same (answer other : Returned) (report other-report : List ℕ) : Typ
   pub same-report : report ≡ other-report
 
 module _ (rule : Rule) (is-rule : IsRule rule) (bytes : List ℕ) where
-  -- bytes are one table, or one refusal, and not both
-  one-table : (t u : Table) → readTable bytes ≡ table t → readTable bytes ≡ table u → t ≡ u
-  one-table t u p q = cc
-
-  one-refusal : (a b x y : ℕ) → readTable bytes ≡ refused a x → readTable bytes ≡ refused b y → (a ≡ b) × (x ≡ y)
-  one-refusal a b x y p q = (cc, cc)
-
-  not-both : {X : Type 0} (t : Table) (a x : ℕ) → readTable bytes ≡ table t → readTable bytes ≡ refused a x → X
-  not-both t a x p q = absurd (let z : _≡_ {A = ℕ} 0 1 = cc in omega arith)
-
-  -- a table has one certificate
-  one-certificate : (t u : Table) (c d : Certificate) → readTable bytes ≡ table t → readTable bytes ≡ table u → IsCertificate rule t c → IsCertificate rule u d → c ≡ d
-  one-certificate t u c d p q is-c is-d =
-      certificate-unique rule is-rule t c d is-c (subst (λ (x : Table). IsCertificate rule x d) (one-table u t q p) is-d)
-
-  one-stop : (t u : Table) (i j : ℕ) → readTable bytes ≡ table t → readTable bytes ≡ table u → Stopped rule t i → Stopped rule u j → i ≡ j
-  one-stop t u i j p q s r = let e : noCoreTakes i ≡ noCoreTakes j = one-certificate t u (noCoreTakes i) (noCoreTakes j) p q s r in cc
-
-  one-list : (t u : Table) (all others : List Figures) → readTable bytes ≡ table t → readTable bytes ≡ table u → Certified rule t all → Certified rule u others → all ≡ others
-  one-list t u all others p q s r = let e : certified all ≡ certified others = one-certificate t u (certified all) (certified others) p q s r in cc
-
-  not-certified : {X : Type 0} (t u : Table) (i : ℕ) (all : List Figures) → readTable bytes ≡ table t → readTable bytes ≡ table u → Stopped rule t i → Certified rule u all → X
-  not-certified t u i all p q s c =
-      absurd (let e : noCoreTakes i ≡ certified all = one-certificate t u (noCoreTakes i) (certified all) p q s c in let z : _≡_ {A = ℕ} 0 1 = cc in omega arith)
-
   -- a report is too short for its table, or long enough
   short-and-long : {X : Type 0} (report : List ℕ) (t u : Table) → readTable bytes ≡ table t → readTable bytes ≡ table u
       → length report < reportLength (length (t .rows))
@@ -77,12 +51,12 @@ module _ (rule : Rule) (is-rule : IsRule rule) (bytes : List ℕ) where
     table-answered-unique (TableAnswered.output-too-short t p s) (TableAnswered.accepted u others q m d) = short-and-long report t u p q s m
     table-answered-unique (TableAnswered.no-core-takes t i p l s) (TableAnswered.not-a-table b y q) = not-both t b y p q
     table-answered-unique (TableAnswered.no-core-takes t i p l s) (TableAnswered.output-too-short u q r) = short-and-long report u t q p r l
-    table-answered-unique (TableAnswered.no-core-takes t i p l s) (TableAnswered.no-core-takes u j q m r) = refused-alike (returned 6 (suc i)) (returned 6 (suc j)) (ap (λ (x : ℕ). returned 6 (suc x)) (one-stop t u i j p q s r))
-    table-answered-unique (TableAnswered.no-core-takes t i p l s) (TableAnswered.accepted u others q m d) = not-certified t u i others p q s d
+    table-answered-unique (TableAnswered.no-core-takes t i p l s) (TableAnswered.no-core-takes u j q m r) = refused-alike (returned 6 (suc i)) (returned 6 (suc j)) (ap (λ (x : ℕ). returned 6 (suc x)) (one-stop rule is-rule t u p q i j s r))
+    table-answered-unique (TableAnswered.no-core-takes t i p l s) (TableAnswered.accepted u others q m d) = not-certified rule is-rule t u p q i others s d
     table-answered-unique (TableAnswered.accepted t all p l c) (TableAnswered.not-a-table b y q) = not-both t b y p q
     table-answered-unique (TableAnswered.accepted t all p l c) (TableAnswered.output-too-short u q r) = short-and-long report u t q p r l
-    table-answered-unique (TableAnswered.accepted t all p l c) (TableAnswered.no-core-takes u j q m r) = not-certified u t j all q p r c
-    table-answered-unique (TableAnswered.accepted t all p l c) (TableAnswered.accepted u others q m d) = both-accepted t u all others (one-table t u p q) (one-list t u all others p q c d)
+    table-answered-unique (TableAnswered.accepted t all p l c) (TableAnswered.no-core-takes u j q m r) = not-certified rule is-rule u t q p j all r c
+    table-answered-unique (TableAnswered.accepted t all p l c) (TableAnswered.accepted u others q m d) = both-accepted t u all others (one-table t u p q) (one-list rule is-rule t u p q all others c d)
 
   -- what the bench program prints is determined
   pub listed-unique : {text other : List ℕ} → Listed rule bytes text → Listed rule bytes other → text ≡ other
@@ -90,11 +64,11 @@ module _ (rule : Rule) (is-rule : IsRule rule) (bytes : List ℕ) where
   listed-unique (Listed.not-a-table a x p) (Listed.no-core-takes u j q r) = not-both u a x q p
   listed-unique (Listed.not-a-table a x p) (Listed.accepted u others q d) = not-both u a x q p
   listed-unique (Listed.no-core-takes t i p s) (Listed.not-a-table b y q) = not-both t b y p q
-  listed-unique (Listed.no-core-takes t i p s) (Listed.no-core-takes u j q r) = ap (λ (x : ℕ). refusal 6 (suc x)) (one-stop t u i j p q s r)
-  listed-unique (Listed.no-core-takes t i p s) (Listed.accepted u others q d) = not-certified t u i others p q s d
+  listed-unique (Listed.no-core-takes t i p s) (Listed.no-core-takes u j q r) = ap (λ (x : ℕ). refusal 6 (suc x)) (one-stop rule is-rule t u p q i j s r)
+  listed-unique (Listed.no-core-takes t i p s) (Listed.accepted u others q d) = not-certified rule is-rule t u p q i others s d
   listed-unique (Listed.accepted t all p c) (Listed.not-a-table b y q) = not-both t b y p q
-  listed-unique (Listed.accepted t all p c) (Listed.no-core-takes u j q r) = not-certified u t j all q p r c
-  listed-unique (Listed.accepted t all p c) (Listed.accepted u others q d) = ap listing (one-list t u all others p q c d)
+  listed-unique (Listed.accepted t all p c) (Listed.no-core-takes u j q r) = not-certified rule is-rule u t q p j all r c
+  listed-unique (Listed.accepted t all p c) (Listed.accepted u others q d) = ap listing (one-list rule is-rule t u p q all others c d)
 
   -- so are the answer of the listing and every byte that it is lent
   pub listing-answered-unique : {n m : ℕ} {listing first second : List ℕ} → ListingAnswered rule bytes listing n first → ListingAnswered rule bytes listing m second → (n ≡ m) × (first ≡ second)

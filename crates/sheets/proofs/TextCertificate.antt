@@ -16,7 +16,7 @@ use Rattle.records.specs.Reading.{Reading, table, refused}
 use Rattle.texts.specs.Table.{readText}
 use Rattle.texts.specs.Columns.{certifiedText}
 use Rattle.service.specs.Text.{TextAnswered}
-use Rattle.sheets.proofs.Test.{isTable, sameList, refusesWith, writtenAs, acceptedAs, refusedAs}
+use Rattle.sheets.proofs.Test.{isTable, refusesWith, writtenAs, acceptedAs, refusedAs}
 use Rattle.sheets.proofs.Law.{same-list}
 use Rattle.sheets.proofs.Certificate.{is-certificate}
 
