@@ -9,3 +9,4 @@ pub mod Sheets
 pub mod ShutOut
 pub mod TableShutOut
 pub mod ExplanationShutOut
+pub mod TextShutOut

@@ -1,9 +1,12 @@
 -- LF FOR CR LF CHANGES NOTHING, NOR DOES THE LAST LINE END.
 use mathlib.Core.Path.{_≡_, refl, sym, ap, _∙_}
-use Prim.Native.Nat.{ℕ}
+use Prim.Native.Nat.{ℕ, _-_}
+use native.Mathlib.Omega.{arith}
 use mathlib.Core.Bool.{Bool, true, false, _&&_}
 use mathlib.Core.List.{List, [], _∷_, _++_}
 use lib.Dec.{eqb}
+use lib.ListN.{length, getD, length-append}
+use lib.Seq.{getD-append-seam}
 use borrow.Author.Tests.{ne-eqb}
 use Rattle.listing.specs.Listing.{ascii}
 use Rattle.texts.specs.Text.{LF, CR, beginsWith, inFront, linesOf, fieldsOf, held, names, sameBytes, hold, headed, textOf}
@@ -13,6 +16,12 @@ use Rattle.texts.proofs.Lines.{stays-in-line}
 -- a text that ends in a byte
 abbrev pub EndsIn : ℕ → List ℕ → Type 0
 EndsIn byte text = (front : List ℕ) × (text ≡ front ++ (byte ∷ []))
+
+-- that is its last byte
+pub last-byte : {byte : ℕ} {text : List ℕ} → EndsIn byte text → getD text (length text - 1) 0 ≡ byte
+last-byte {byte} {text} ends =
+    let last : length text - 1 ≡ length (ends .0) = omega (arith, ap length (ends .1), length-append (ends .0) (byte ∷ [])) in
+    rw (last, ends .1) (getD-append-seam (ends .0) byte [] 0)
 
 -- where a text does not end in a byte, neither does what is left of it behind its first one
 ends-behind : (byte first next : ℕ) (text : List ℕ) → (EndsIn byte (first ∷ (next ∷ text)) → ⊥) → EndsIn byte (next ∷ text) → ⊥
