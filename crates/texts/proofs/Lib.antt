@@ -7,6 +7,9 @@ pub mod Digits
 pub mod Fields
 pub mod Forms
 pub mod Joined
+pub mod Parted
+pub mod Zeros
+pub mod ReadForms
 pub mod RoundTrip
 pub mod Refused
 pub mod Ends
