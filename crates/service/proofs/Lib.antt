@@ -4,3 +4,4 @@ pub mod Table
 pub mod Copied
 pub mod Text
 pub mod TextRoundTrip
+pub mod SameCertificate
