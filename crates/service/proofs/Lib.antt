@@ -3,4 +3,5 @@ pub mod Determined
 pub mod Table
 pub mod Copied
 pub mod Text
+pub mod TextRoundTrip
 pub mod SameCertificate

@@ -38,7 +38,7 @@ module _ (t : Table) (passes : T (isTable t)) where
   reads : readTable (tableBytes t) ≡ table t
   reads = table-reads-back t table-within
 
-  is-certificate : IsCertificate allowanceFit t (certificate allowanceFit t)
+  pub is-certificate : IsCertificate allowanceFit t (certificate allowanceFit t)
   is-certificate = certificate-is t (table-within .rows-within) allowanceFit allowance-fit-is-rule
 
   pub listed-holds : (text : List ℕ) → textOf (certificate allowanceFit t) ≡ text → Listed allowanceFit (tableBytes t) text

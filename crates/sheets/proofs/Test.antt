@@ -18,8 +18,11 @@ use Rattle.placement.specs.Order.{taken}
 use Rattle.placement.specs.Choice.{allowanceFit}
 use Rattle.placement.specs.Figures.{Certificate, certified, noCoreTakes}
 use Rattle.placement.specs.Computed.{responseOf, certificate}
+use Rattle.records.specs.Reading.{Reading}
 use Rattle.listing.specs.Listing.{listing, refusal}
-use Rattle.sheets.specs.Sheets.{Sheet, set-accepted, set-refused, below-one, walk-yields, points-as-set, bound-on, slack-at, quotient-at, order-taken, listed, table-refused, limited-by, why-refused}
+use Rattle.texts.specs.Table.{readText}
+use Rattle.texts.specs.Columns.{certifiedText}
+use Rattle.sheets.specs.Sheets.{Sheet, set-accepted, set-refused, below-one, walk-yields, points-as-set, bound-on, slack-at, quotient-at, order-taken, listed, table-refused, limited-by, why-refused, text-accepted, text-refused}
 
 -- whether two lists are the same
 unfoldable pub sameList : List ℕ → List ℕ → Bool
@@ -84,6 +87,21 @@ unfoldable pub whyRefused : List Row → ℕ → ℕ → ℕ → Bool
 whyRefused rows zero number row = eqb 10 number && eqb 0 row
 whyRefused rows (suc i) number row = elim (ltb i (length rows)) [ true ↦ refusesLate rows number row | false ↦ eqb 10 number && eqb 0 row ]
 
+-- whether a certificate of rows is written so
+abbrev pub writtenAs : List Row → Certificate → List ℕ → Bool
+writtenAs rows (certified all) written = sameList (certifiedText rows all) written
+writtenAs rows (noCoreTakes i) written = false
+
+-- whether what a text is as a table has a certificate that is written so
+abbrev pub acceptedAs : Reading → List ℕ → Bool
+acceptedAs (Reading.table t) written = isTable t && writtenAs (t .rows) (certificate allowanceFit t) written
+acceptedAs (Reading.refused number row) written = false
+
+-- whether what a text is as a table is refused with a number and a row
+abbrev pub refusedAs : Reading → ℕ → ℕ → Bool
+refusedAs (Reading.table t) number row = isTable t && refusesWith (certificate allowanceFit t) number row
+refusedAs (Reading.refused other-number other-row) number row = eqb other-number number && eqb other-row row
+
 -- THE TEST of a sheet
 unfoldable pub passes : Sheet → Bool
 passes (set-accepted rows responses allowances) =
@@ -100,6 +118,8 @@ passes (listed table text) = isTable table && sameList (textOf (certificate allo
 passes (table-refused table number row) = isTable table && refusesWith (certificate allowanceFit table) number row
 passes (limited-by rows row limiting p) = isSet rows && limitedAt rows row limiting p
 passes (why-refused rows asked number row) = isSet rows && whyRefused rows asked number row
+passes (text-accepted cores text written) = acceptedAs (readText cores text) written
+passes (text-refused cores text number row) = refusedAs (readText cores text) number row
 
 -- whether every sheet of a list passes
 unfoldable pub allPass : List Sheet → Bool

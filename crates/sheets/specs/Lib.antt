@@ -1,2 +1,2 @@
--- Document 01, "Sheets to reproduce": those marked P; and those of document 02's request 1.
+-- Document 01, "Sheets to reproduce": those marked P; and those of document 02's requests 1 and 2.
 pub mod Sheets

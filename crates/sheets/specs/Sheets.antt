@@ -1,6 +1,6 @@
--- Sheets 1 to 10 of document 01 and those of document 02's request 1, as one list, and what each entry says.
+-- Sheets 1 to 10 of document 01 and those of document 02's requests 1 and 2, as one list, and what each entry says.
 use mathlib.Core.Path.{_≡_}
-use Prim.Native.Nat.{ℕ, _≤_, _<_}
+use Prim.Native.Nat.{ℕ, zero, suc, _≤_, _<_}
 use mathlib.Core.Logic.{_↔_}
 use mathlib.Core.List.{List, [], _∷_, _++_, map, List·Memᴰ}
 use lib.IntN.{ℤ, pos, negsuc}
@@ -17,9 +17,10 @@ use Rattle.placement.specs.Choice.{allowanceFit}
 use Rattle.records.specs.Report.{tableBytes, reportLength}
 use Rattle.listing.specs.Listing.{ascii}
 use Rattle.service.specs.Table.{TableAnswered, Listed}
+use Rattle.service.specs.Text.{TextAnswered}
 
 -- what a sheet says. Rows go by their places, which count from 0: place 1 is row 2. A refusal is its number and its row, which counts from 1; so do the rows
--- of an explanation: the row asked about, and the row that limits it
+-- of an explanation: the row asked about, and the row that limits it. A text stands behind its number of cores
 pub data Sheet : Type 0 where
   set-accepted : List Row → List ℕ → List ℕ → Sheet
   set-refused : List Row → ℕ → ℕ → Sheet
@@ -34,6 +35,8 @@ pub data Sheet : Type 0 where
   table-refused : Table → ℕ → ℕ → Sheet
   limited-by : List Row → ℕ → ℕ → ℕ → Sheet
   why-refused : List Row → ℕ → ℕ → ℕ → Sheet
+  text-accepted : ℕ → List ℕ → List ℕ → Sheet
+  text-refused : ℕ → List ℕ → ℕ → ℕ → Sheet
 
 -- the three lists that a set's rows are
 abbrev pub executions : List Row → List ℕ
@@ -70,6 +73,9 @@ Holds (table-refused table number row) =
     (report : List ℕ) → reportLength (length (table .rows)) ≤ length report → TableAnswered allowanceFit (tableBytes table) report (returned number row) report
 Holds (limited-by rows asked limiting p) = Explained (executions rows) (deadlines rows) (periods rows) asked (returned 0 0) limiting p
 Holds (why-refused rows asked number row) = Explained (executions rows) (deadlines rows) (periods rows) asked (returned number row) 0 0
+Holds (text-accepted cores text written) =
+    (lent : List ℕ) → length written ≤ length lent → TextAnswered allowanceFit cores text lent (returned 0 0) (length written) (filled written lent)
+Holds (text-refused cores text number row) = (lent : List ℕ) → TextAnswered allowanceFit cores text lent (returned number row) 0 lent
 
 -- a row, written C/D/T in the document
 unfoldable pub row : ℕ → ℕ → ℕ → Row
@@ -90,9 +96,44 @@ listingOfTheFour =
     ++ ascii "4 1 90 110\n"
     ++ ascii "system 47\n"
 
+-- a header's line and others
+unfoldable pub underHeader : List ℕ → List ℕ
+underHeader lines = ascii "wcet,deadline,period\r\n" ++ lines
+
+-- the four rows as a text; quoted throughout, with LF and no last line end; and the text with three columns more
+unfoldable pub textOfTheFour : List ℕ
+unfolding underHeader
+textOfTheFour = underHeader (ascii "10,60,70\r\n" ++ ascii "15,85,100\r\n" ++ ascii "30,190,210\r\n" ++ ascii "45,260,320\r\n")
+
+unfoldable pub quotedTextOfTheFour : List ℕ
+quotedTextOfTheFour =
+    ascii "\"wcet\",\"deadline\",\"period\"\n"
+    ++ ascii "\"10\",\"60\",\"70\"\n"
+    ++ ascii "\"15\",\"85\",\"100\"\n"
+    ++ ascii "\"30\",\"190\",\"210\"\n"
+    ++ ascii "\"45\",\"260\",\"320\""
+
+unfoldable pub columnsOfTheFour : List ℕ
+columnsOfTheFour =
+    ascii "wcet,deadline,period,core,response,allowance\r\n"
+    ++ ascii "10,60,70,2,10,50\r\n"
+    ++ ascii "15,85,100,1,15,47\r\n"
+    ++ ascii "30,190,210,1,45,95\r\n"
+    ++ ascii "45,260,320,1,90,110\r\n"
+
+-- the rows of sheet 4, which no two cores take, as a text
+unfoldable pub textOfSheetFour : List ℕ
+unfolding underHeader
+textOfSheetFour = underHeader (ascii "6,10,10\r\n" ++ ascii "4,10,10\r\n" ++ ascii "4,10,10\r\n" ++ ascii "3,10,10\r\n" ++ ascii "3,10,10\r\n")
+
+-- a line as many times
+unfoldable pub repeated : ℕ → List ℕ → List ℕ
+repeated zero line = []
+repeated (suc n) line = line ++ repeated n line
+
 -- THE SHEETS
 unfoldable pub sheets : List Sheet
-unfolding row theFour listingOfTheFour
+unfolding row theFour listingOfTheFour underHeader textOfTheFour quotedTextOfTheFour columnsOfTheFour textOfSheetFour repeated
 sheets =
     -- 1
     set-accepted theFour (10 ∷ 25 ∷ 55 ∷ 125 ∷ []) (21 ∷ 32 ∷ 65 ∷ 70 ∷ [])
@@ -137,4 +178,29 @@ sheets =
     ∷ why-refused theFour 5 10 0
     ∷ why-refused (row 5 10 10 ∷ row 6 14 14 ∷ []) 1 8 2
     ∷ why-refused (row 5 10 10 ∷ row 6 14 14 ∷ []) 3 10 0
+    -- document 02, request 2: the four rows on two cores with three columns more, also quoted throughout; the text that is written is itself not read
+    ∷ text-accepted 2 textOfTheFour columnsOfTheFour
+    ∷ text-accepted 2 quotedTextOfTheFour columnsOfTheFour
+    ∷ text-refused 2 columnsOfTheFour 9 1
+    -- sheet 4, whatever is lent: 6 before 7
+    ∷ text-refused 2 textOfSheetFour 6 5
+    -- leading zeros, and a number that is 5 modulo 2^32
+    ∷ text-accepted 1 (underHeader (ascii "00000000000000000005,5,5\n")) (ascii "wcet,deadline,period,core,response,allowance\r\n5,5,5,1,5,0\r\n")
+    ∷ text-refused 1 (underHeader (ascii "4294967301,5,5\n")) 4 1
+    ∷ text-refused 1 (underHeader (ascii "4294967301,4294967301,4294967301\n")) 4 1
+    -- no rows, no bytes, a second line end at the end
+    ∷ text-refused 1 (underHeader []) 3 0
+    ∷ text-refused 1 [] 9 1
+    ∷ text-refused 2 (textOfTheFour ++ ascii "\r\n") 9 6
+    -- 9 before any other: before a 25th row, and before a broken limit
+    ∷ text-refused 1 (underHeader (repeated 24 (ascii "1,100,100\n") ++ ascii "1,100")) 9 26
+    ∷ text-refused 1 (underHeader (ascii "2,1,1\n1,1\n")) 9 3
+    -- then 2, and a 25th row before its limits
+    ∷ text-refused 0 (underHeader (ascii "2,1,1\n")) 2 0
+    ∷ text-refused 1 (underHeader (repeated 24 (ascii "1,100,100\n") ++ ascii "2,1,1\n")) 3 0
+    -- a CR that is not before an LF, a line end or a quote in a quoted field, an empty field
+    ∷ text-refused 1 (underHeader (ascii "1,2,2\r")) 9 2
+    ∷ text-refused 1 (underHeader (ascii "1,2,2\n1,\"2\n\",2\n")) 9 3
+    ∷ text-refused 1 (underHeader (ascii "1,\"2\"\"\",2\n")) 9 2
+    ∷ text-refused 1 (underHeader (ascii "1,,2\n")) 9 2
     ∷ []

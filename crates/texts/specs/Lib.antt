@@ -3,3 +3,4 @@ pub mod Text
 pub mod Rest
 pub mod Table
 pub mod Columns
+pub mod Forms

@@ -15,6 +15,7 @@ same-length c = search needs
 
 returns : tie.Need-returns
 returns c = rw (c .entry-written .ensures .0, c .entry-written .ensures .1, c .entry-written .ensures .2) (c .before .before .before .text-service .ensures)
+
 pub hibalunduk-csv-spec : {M : Type 1} → statement M
 hibalunduk-csv-spec =
     tie.close (tie.spec text-service-requires entry-written-requires same-length returns)

@@ -16,6 +16,7 @@ same-length c = search needs
 
 returns : tie.Need-returns
 returns c = rw (c .entry-written .ensures .0, c .entry-written .ensures .1, c .entry-written .ensures .2) (c .before .before .before .table-of-text .ensures)
+
 pub hibalunduk-csv-table-spec : {M : Type 1} → statement M
 hibalunduk-csv-table-spec =
     tie.close (tie.spec table-of-text-requires entry-written-requires same-length returns)

@@ -1,0 +1,56 @@
+-- Every way in which a table may be written as a text: RFC 4180's grammar, cut down to a header and rows of three numbers.
+use Prim.Native.Nat.{ℕ}
+use mathlib.Core.List.{List, [], _∷_, _++_}
+use lib.ListN.{replicate}
+use Rattle.theory.specs.Row.{Row}
+use Rattle.listing.specs.Listing.{ascii, decimal}
+use Rattle.texts.specs.Text.{LF, CR, quote, comma}
+
+-- the byte of the digit 0
+abbrev pub digitZero : ℕ
+digitZero = 48
+
+-- a field that holds some bytes: plain or quoted
+pub data FieldOf (content : List ℕ) : List ℕ → Type 0 where
+  plain : FieldOf content content
+  quoted : FieldOf content (quote ∷ content ++ (quote ∷ []))
+
+-- a field that holds a number: its decimal digits, behind any leading zeros
+pub data NumberField (n : ℕ) : List ℕ → Type 0 where
+  digits : (zeros : ℕ) {field : List ℕ} → FieldOf (replicate zeros digitZero ++ decimal n) field → NumberField n field
+
+-- a line of three fields, commas between them
+abbrev pub threeFields : List ℕ → List ℕ → List ℕ → List ℕ
+threeFields first second third = first ++ (comma ∷ (second ++ (comma ∷ third)))
+
+-- the header's line: three names
+pub data HeaderLine : List ℕ → Type 0 where
+  header :
+      {wcet deadline period : List ℕ}
+      → FieldOf (ascii "wcet") wcet
+      → FieldOf (ascii "deadline") deadline
+      → FieldOf (ascii "period") period
+      → HeaderLine (threeFields wcet deadline period)
+
+-- a row's line: three numbers
+pub data RowLine (row : Row) : List ℕ → Type 0 where
+  numbers : {c d t : List ℕ} → NumberField (row .C) c → NumberField (row .D) d → NumberField (row .T) t → RowLine row (threeFields c d t)
+
+-- a line end: LF or CR LF
+pub data LineEnd : List ℕ → Type 0 where
+  LF-alone : LineEnd (LF ∷ [])
+  CR-LF : LineEnd (CR ∷ LF ∷ [])
+
+-- what stands behind a line, in front of other lines: its end, which may be missing where there are none
+pub data Behind : List ℕ → List ℕ → Type 0 where
+  line-end : (others : List ℕ) {end : List ℕ} → LineEnd end → Behind others (end ++ others)
+  end-of-text : Behind [] []
+
+-- a line for each row
+pub data RowLines : List Row → List ℕ → Type 0 where
+  no-rows : RowLines [] []
+  with-row : {row : Row} {line others rest : List ℕ} {rows : List Row} → RowLine row line → Behind others rest → RowLines rows others → RowLines (row ∷ rows) (line ++ rest)
+
+-- A TEXT THAT IS A TABLE'S ROWS: the header's line, then theirs
+pub data Written : List Row → List ℕ → Type 0 where
+  written : {line others rest : List ℕ} {rows : List Row} → HeaderLine line → Behind others rest → RowLines rows others → Written rows (line ++ rest)
