@@ -44,7 +44,8 @@ static struct service point_numbers = { "point service", { 0, 3, 4, 7, 8 }, 5, {
 static struct service why_numbers = { "why service", { 0, 3, 4, 8, 10 }, 5, { 0 } };
 static struct service listing_numbers = { "listing", { 0, 1, 2, 3, 4, 5, 6 }, 7, { 0 } };
 
-static const struct program third_program = { "the third opinion", brute_table, brute_set, brute_set, brute_why, NULL };
+static const struct program third_program = { .name = "the third opinion", .table = brute_table, .set = brute_set,
+                                              .point = brute_set, .why = brute_why };
 
 /* ---- What differs ---- */
 
