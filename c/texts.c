@@ -171,7 +171,8 @@ static void draw_digits(char *digits)
 void draw_long_number(const struct rows *rows, size_t count, struct long_number *number)
 {
     static const char *const around[] = { "4294967296", "18446744073709551616", "340282366920938463463374607431768211456",
-                                          "4294967295", "18446744073709551615", "1000000", "0999999", "100000000" };
+                                          "4294967295", "18446744073709551615", "1000000", "0999999", "100000000",
+                                          "0000000", "0000000", "0000000" };
     const struct row *row;
 
     number->row = below((uint32_t)count);
@@ -182,7 +183,7 @@ void draw_long_number(const struct rows *rows, size_t count, struct long_number 
         draw_digits(number->digits);
         return;
     }
-    strcpy(number->digits, around[below(8)]);
+    strcpy(number->digits, around[below(11)]);
     if (once_in(3))
         add_to_digits(number->digits, below(3));
     else

@@ -29,8 +29,8 @@ void plain_text(const struct rows *rows, size_t count, struct text *text);
  * another unless that is null. */
 void draw_text(const struct rows *rows, size_t count, const struct long_number *number, struct text *text);
 
-/* A number around a power of two or of ten, or of very many digits; what is left of some in 32 or 64 bits is the one that
- * stood there. */
+/* A number around a power of two or of ten, or of very many digits, or the one that stood there with zeros before it; of
+ * some, what is left in 32 or 64 bits is the one that stood there. For one row or more. */
 void draw_long_number(const struct rows *rows, size_t count, struct long_number *number);
 
 /* A number of cores: none, some, one too many, or far too many. */
