@@ -133,9 +133,9 @@ static void write_text(const struct rows *rows, size_t count, const struct long_
 }
 
 /* Writes a text as a spreadsheet does. */
-void plain_text(const struct rows *rows, size_t count, struct text *text)
+void plain_text(const struct rows *rows, size_t count, const struct long_number *number, struct text *text)
 {
-    write_text(rows, count, NULL, &plain_style, text);
+    write_text(rows, count, number, &plain_style, text);
 }
 
 /* Writes a text in a style that is drawn. */

@@ -22,11 +22,11 @@ struct long_number {
 /* Bytes at the end of a text. */
 void add_bytes(struct text *text, const void *bytes, size_t len);
 
-/* The text of so many rows, these over and over, as a spreadsheet writes it: plain, with CRLF. */
-void plain_text(const struct rows *rows, size_t count, struct text *text);
-
-/* The same, quoted or plain, with zeros or without, in CRLF or LF, the last end there or not; with a number in place of
+/* The text of so many rows, these over and over, as a spreadsheet writes it: plain, with CRLF; with a number in place of
  * another unless that is null. */
+void plain_text(const struct rows *rows, size_t count, const struct long_number *number, struct text *text);
+
+/* The same, quoted or plain, with zeros or without, in CRLF or LF, the last end there or not. */
 void draw_text(const struct rows *rows, size_t count, const struct long_number *number, struct text *text);
 
 /* A number around a power of two or of ten, or of very many digits, or the one that stood there with zeros before it; of
