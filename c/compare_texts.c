@@ -168,13 +168,17 @@ void text_as_drawn(const struct rows *rows)
     compare_text();
 }
 
-/* A text with one byte replaced, inserted or removed, or two; now and then for a number of cores that is refused. */
+/* A text with one byte replaced, inserted or removed, or two, or with a damaged field; now and then for a number of cores
+ * that is refused. */
 void text_damaged(const struct rows *rows)
 {
     draw_text(rows, rows->count, NULL, &text);
-    do
-        damage_text(&text);
-    while (once_in(3));
+    if (once_in(3))
+        damage_field(&text);
+    else
+        do
+            damage_text(&text);
+        while (once_in(3));
     if (once_in(4))
         text.cores = draw_cores();
     compare_text();
@@ -214,8 +218,8 @@ void text_with_long_number(const struct rows *rows)
     compare_text();
 }
 
-/* A text with as many rows as are allowed, around that, or far more; some with a number of many digits in a row around the
- * last that is allowed, some damaged. */
+/* A text with as many rows as are allowed, around that, or far more; some with a number of many digits in one of the last
+ * rows that are looked at, some damaged. */
 void text_of_many_rows(const struct rows *rows)
 {
     static const size_t counts[] = { ROWS_MAX - 1, ROWS_MAX, ROWS_MAX + 1, ROWS_MAX + 2, MANY_ROWS };
@@ -223,10 +227,10 @@ void text_of_many_rows(const struct rows *rows)
     bool longer = many > 0 && once_in(2);
     struct long_number number;
 
-    if (longer)
+    if (longer) {
         draw_long_number(rows, many, &number);
-    if (longer && once_in(2))
-        number.row = ROWS_MAX - 2 + below(4);
+        number.row = ROWS_MAX - 2 + below(3);
+    }
     draw_text(rows, many, longer ? &number : NULL, &text);
     if (once_in(4))
         damage_text(&text);
@@ -273,7 +277,7 @@ static void compare_long_text(uint32_t times)
     count(csv.answer.number);
 }
 
-/* Two texts of some MiB: very many zeros before a number, and very many rows. */
+/* Two texts of some MiB: very many zeros before a number, and very many rows. For one row or more. */
 void text_of_mebibytes(const struct rows *rows)
 {
     struct long_number number;

@@ -83,7 +83,8 @@ static void show_line(const struct sheet *sheet, uint32_t line)
 static void explain_line(const struct sheet *sheet, uint32_t line)
 {
     fprintf(stderr, "line %u of the sheet has to be %s, and nothing else; it is ", (unsigned)line,
-            line == 1 ? "the header wcet,deadline,period" : "three numbers in digits with commas between, as in 10,60,70");
+            line == 1 ? "the header wcet,deadline,period"
+                      : "three numbers in digits with commas between, as in 10,60,70");
     show_line(sheet, line);
 }
 

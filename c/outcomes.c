@@ -24,7 +24,8 @@ void print_called(const char *name, const struct called *called, size_t first_le
     printf("  %s: number %u row %u, limited by %u at %u, %lu bytes to write, what it read %s\n", name,
            (unsigned)called->answer.number, (unsigned)called->answer.row, (unsigned)called->limited_by,
            (unsigned)called->point, (unsigned long)called->first_written, called->read_kept ? "kept" : "changed");
-    print_bytes("report, listing, text, table or response times, with margins", called->first, MARGIN + first_len + MARGIN);
+    print_bytes("report, listing, text, table or response times, with margins", called->first,
+                MARGIN + first_len + MARGIN);
     print_bytes("allowances, with margins", called->second, MARGIN + second_len + MARGIN);
 }
 

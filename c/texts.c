@@ -219,6 +219,13 @@ static size_t draw_place(const struct text *text)
     return at;
 }
 
+/* Removes bytes at a place of a text. */
+static void remove_bytes(struct text *text, size_t at, size_t len)
+{
+    text->len -= len;
+    memmove(text->bytes + at, text->bytes + at + len, text->len - at);
+}
+
 /* Replaces, inserts or removes one byte. */
 void damage_text(struct text *text)
 {
@@ -230,12 +237,35 @@ void damage_text(struct text *text)
         return;
     }
     at = once_in(4) ? text->len - 1 : draw_place(text);
-    if (once_in(2)) {
+    if (once_in(2))
         text->bytes[at] = byte;
+    else
+        remove_bytes(text, at, 1);
+}
+
+/* Whether there is a digit at a place of a text. */
+static bool digit_at(const struct text *text, size_t at)
+{
+    return at < text->len && text->bytes[at] >= '0' && text->bytes[at] <= '9';
+}
+
+/* Inserts a few bytes, or removes the digits around a place. */
+void damage_field(struct text *text)
+{
+    static const char *const pieces[] = { "\"\"", "\"\"\"\"", "\r\n", "\n\r",
+                                          "\r\r\n", "\"\r\n\"", ",\"\"", "\xEF\xBB\xBF" };
+    const char *piece = pieces[below(8)];
+    size_t at = draw_place(text), to;
+
+    if (once_in(2)) {
+        insert_bytes(text, at, piece, strlen(piece));
         return;
     }
-    text->len--;
-    memmove(text->bytes + at, text->bytes + at + 1, text->len - at);
+    while (at > 0 && digit_at(text, at - 1))
+        at--;
+    for (to = at; digit_at(text, to);)
+        to++;
+    remove_bytes(text, at, to - at);
 }
 
 /* Writes a part of a text twice: all, one byte, up to a line's end, or any part. */

@@ -36,8 +36,10 @@ void draw_long_number(const struct rows *rows, size_t count, struct long_number 
 /* A number of cores: none, some, one too many, or far too many. */
 uint32_t draw_cores(void);
 
-/* Spoils a text: one byte replaced, inserted or removed; a part of it twice; cut. */
+/* Spoils a text: one byte replaced, inserted or removed; a few bytes inserted, or the digits of a field removed; a part
+ * of it twice; cut. */
 void damage_text(struct text *text);
+void damage_field(struct text *text);
 void double_part(struct text *text);
 void cut_text(struct text *text);
 
