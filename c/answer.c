@@ -1,22 +1,26 @@
 /* Makes the calls that the lines of standard input are, by the second program or (argument `product`) by the product, and
  * prints what they return and what is lent at the end. samples/calls has such lines. Byte strings are in lowercase hex.
  *
- *     table TABLE LENGTH           the table service, with a report of so many bytes
- *     rows C D T LENGTH LENGTH     the set service, then the point service, with response times and allowances of so many
- *     why C D T ROW                the why service, for the row of that number
- *     listing TABLE LENGTH         the listing, into so many bytes
+ *     table TABLE LENGTH              the table service, with a report of so many bytes
+ *     rows C D T LENGTH LENGTH        the set service, then the point service, with answer lists of so many
+ *     why C D T ROW                   the why service, for the row of that number
+ *     listing TABLE LENGTH            the listing, into so many bytes
+ *     text TEXT CORES LENGTH LENGTH   the csv service, then the table of the text, into so many
  *
- * Printed are number and row, or for the listing how many bytes were written, and then the lent bytes; these are a5 before
- * the call. The why service is lent none: printed last are its limiting row and its point. A line that begins with # is
- * printed as it is. No byte string has more than 1200 bytes. A line that has none of these forms ends the run with
- * status 2. */
+ * A text is not in hex but as it is, with \r and \n for a line's end and \x20 for a space or any byte that is no plain
+ * character.
+ *
+ * Printed are number and row, or for the listing how many bytes were written, or for a text all three, and then the lent
+ * bytes; these are a5 before the call. The why service is lent none: printed last are its limiting row and its point. A
+ * line that begins with # is printed as it is. No byte string has more than 1700 bytes. A line that has none of these
+ * forms ends the run with status 2. */
 #include "programs.h"
 
 #include <stdio.h>
 #include <stdlib.h>
 #include <string.h>
 
-enum { LINE_MAX = 8192, WORDS_MAX = 6, BYTES_MAX = 1200, LENT = 0xA5 };
+enum { LINE_MAX = 16384, WORDS_MAX = 6, BYTES_MAX = 1700, LENT = 0xA5 };
 
 /* Bytes that a call reads, or that it is lent. */
 struct bytes {
@@ -48,6 +52,16 @@ static int digit(char symbol)
     return found == NULL ? -1 : (int)(found - digits);
 }
 
+/* The byte that two hex digits are. */
+static uint8_t read_byte(const struct line *line, const char *digits)
+{
+    int high = digit(digits[0]), low = high < 0 ? -1 : digit(digits[1]);
+
+    if (low < 0)
+        fail(line, "not bytes in hex");
+    return (uint8_t)(16 * high + low);
+}
+
 /* Reads a word in hex. */
 static void read_bytes(const struct line *line, size_t word, struct bytes *bytes)
 {
@@ -55,13 +69,36 @@ static void read_bytes(const struct line *line, size_t word, struct bytes *bytes
 
     bytes->len = strlen(text) / 2;
     if (strlen(text) % 2 != 0 || bytes->len > BYTES_MAX)
-        fail(line, "not at most 1200 bytes in hex");
-    for (size_t n = 0; n < bytes->len; n++) {
-        int high = digit(text[2 * n]), low = digit(text[2 * n + 1]);
+        fail(line, "not at most 1700 bytes in hex");
+    for (size_t n = 0; n < bytes->len; n++)
+        bytes->of[n] = read_byte(line, text + 2 * n);
+}
 
-        if (high < 0 || low < 0)
-            fail(line, "not bytes in hex");
-        bytes->of[n] = (uint8_t)(16 * high + low);
+/* Reads the byte behind a backslash, \r, \n or \x and two hex digits; gives where the next one begins. */
+static const char *read_escaped(const struct line *line, const char *at, uint8_t *byte)
+{
+    if (*at == 'r' || *at == 'n') {
+        *byte = *at == 'r' ? '\r' : '\n';
+        return at + 1;
+    }
+    if (*at != 'x')
+        fail(line, "not a byte behind a backslash");
+    *byte = read_byte(line, at + 1);
+    return at + 3;
+}
+
+/* Reads a word that is a text. */
+static void read_text(const struct line *line, size_t word, struct bytes *bytes)
+{
+    const char *at = line->word[word];
+
+    for (bytes->len = 0; *at != '\0'; bytes->len++) {
+        if (bytes->len == BYTES_MAX)
+            fail(line, "a text of more than 1700 bytes");
+        if (*at == '\\')
+            at = read_escaped(line, at + 1, &bytes->of[bytes->len]);
+        else
+            bytes->of[bytes->len] = (uint8_t)*at++;
     }
 }
 
@@ -148,6 +185,21 @@ static void answer_why(const struct line *line)
     printf(" %u %u\n", (unsigned)why.limited_by, (unsigned)why.point);
 }
 
+/* A line with a text and a number of cores, for one of the text services; the length to lend is in this word. */
+static void answer_text(const struct line *line, text_service *service, size_t word)
+{
+    struct bytes text, lent;
+    struct second_written written;
+
+    read_text(line, 1, &text);
+    lend(line, word, &lent);
+    written = service(read_number(line, 2, UINT32_MAX), text.of, text.len, lent.of, lent.len);
+    print_answer(written.answer);
+    printf(" %u", (unsigned)written.length);
+    print_bytes(&lent);
+    putchar('\n');
+}
+
 /* Reads a line and takes it apart; false at the end of the input. */
 static bool read_line(struct line *line)
 {
@@ -184,7 +236,10 @@ static void answer_line(const struct line *line)
         answer_rows(line, program->point);
     } else if (line->words == 5 && strcmp(line->word[0], "why") == 0)
         answer_why(line);
-    else
+    else if (line->words == 5 && strcmp(line->word[0], "text") == 0) {
+        answer_text(line, program->csv, 3);
+        answer_text(line, program->csv_table, 4);
+    } else
         fail(line, "not a line to answer");
 }
 

@@ -1,7 +1,8 @@
 /* What the product costs beside the second program: both on the same inputs in the same run, by processor time, best of
- * several runs, as second / product: above 1 the product is the faster one; and its why service beside three calls of its
- * point service. Argument: how many random tables a line. */
+ * several runs, as second / product: above 1 the product is the faster one; its why service beside three calls of its
+ * point service; and how fast its csv service reads. Argument: how many random tables a line. */
 #include "programs.h"
+#include "texts.h"
 
 #include <math.h>
 #include <stdio.h>
@@ -9,20 +10,22 @@
 #include <string.h>
 #include <time.h>
 
-enum { REPORT_ROOM = 4 + 23 * ROWS_MAX, TABLES_MAX = 1000, BAR = 60 };
+enum { REPORT_ROOM = 4 + 23 * ROWS_MAX, CSV_ROOM = 46 + 67 * ROWS_MAX, TABLES_MAX = 1000, BAR = 60 };
+enum { MEBIBYTE = 1 << 20 };
 
 /* Microseconds: a run has so many calls that it takes the first; after one that takes the second no other is made. */
 static const double SHORT_RUN = 2000, LONG_RUN = 200000;
 
-enum service { TABLE, SET, POINT, WHY };
+enum service { TABLE, SET, POINT, WHY, CSV };
 
-static const char *const service_names[] = { "table", "set", "point", "why" };
+static const char *const service_names[] = { "table", "set", "point", "why", "csv" };
 
-/* The bytes of one input, as a table and as lists. */
+/* The bytes of one input, as a table and as lists, or as a text. */
 struct input {
     uint8_t table[TABLE_ROOM];
     size_t table_len;
     struct lists lists;
+    struct text text;
 };
 
 /* Microseconds of one call. */
@@ -41,15 +44,18 @@ struct measured {
 
 /* ---- Calls ---- */
 
-static uint8_t report[REPORT_ROOM], responses[LIST_ROOM], allowances[LIST_ROOM];
+static uint8_t report[REPORT_ROOM], responses[LIST_ROOM], allowances[LIST_ROOM], written[CSV_ROOM];
 
 /* Calls a program's service; gives the answer's number. */
 static uint32_t call(const struct program *program, enum service service, const struct input *input)
 {
     const struct lists *lists = &input->lists;
+    const struct text *text = &input->text;
 
     if (service == TABLE)
         return program->table(input->table, input->table_len, report, sizeof report).number;
+    if (service == CSV)
+        return program->csv(text->cores, text->bytes, text->len, written, sizeof written).answer.number;
     if (service == WHY)
         return program->why(lists->c, lists->c_len, lists->d, lists->d_len, lists->t, lists->t_len, lists->row)
             .answer.number;
@@ -378,6 +384,44 @@ static void print_whys(void)
     why_given(walks, "huge walks");
 }
 
+/* ---- The csv service ---- */
+
+/* Measures and prints the csv service on a text. */
+static void csv_line(const struct text *text, const char *name)
+{
+    struct input input = { .text = *text };
+    struct cost cost = measure(CSV, &input, 7);
+
+    printf("%-6s", service_names[CSV]);
+    print_number(cost.product);
+    print_number(cost.second);
+    print_number(cost.second / cost.product);
+    print_number((double)text->len / MEBIBYTE / (cost.product / 1000000));
+    printf("  %s: answer %u\n", name, (unsigned)call(&product_program, CSV, &input));
+    fflush(stdout);
+}
+
+/* Prints the csv service beside the second program's, on texts as a spreadsheet writes them and on long ones. */
+static void print_csvs(void)
+{
+    static struct text text;
+    struct rows rows = { .cores = 2 };
+    struct long_number zeros = { 0, 0, 4 * MEBIBYTE, "10" };
+
+    printf("\nThe csv service, microseconds a call, and MiB of text that the product reads in a second.\n\n");
+    printf("%-6s%12s%12s%12s%12s  %s\n", "", "product", "second", "ratio", "MiB/s", "input");
+    read_rows(four, &rows);
+    plain_text(&rows, rows.count, NULL, &text);
+    csv_line(&text, "the four rows of document 01 on 2 cores");
+    plain_text(&rows, rows.count, &zeros, &text);
+    csv_line(&text, "the same with 4 MiB of zeros before a number");
+    draw_accepted(TABLE, 2, ROWS_MAX, false, 0.5, &rows);
+    plain_text(&rows, rows.count, NULL, &text);
+    csv_line(&text, "24 rows by UUniFast, D <= T, 2 cores");
+    plain_text(&rows, 4 * MEBIBYTE / (text.len / ROWS_MAX), NULL, &text);
+    csv_line(&text, "4 MiB of these rows over and over");
+}
+
 /* ---- The picture ---- */
 
 /* Prints a bar: # up to the product's cost, o at the second program's. */
@@ -412,7 +456,7 @@ static void print_picture(unsigned tables)
     }
 }
 
-/* Prints the table, the picture and the lines of the why service. */
+/* Prints the table, the picture and the lines of the why service and of the csv service. */
 int main(int argc, char **argv)
 {
     unsigned tables = argc > 1 ? (unsigned)strtoul(argv[1], NULL, 10) : 50;
@@ -434,5 +478,6 @@ int main(int argc, char **argv)
     print_hostile();
     print_picture(tables);
     print_whys();
+    print_csvs();
     return 0;
 }

@@ -125,6 +125,20 @@ void call_why(why_service *service, const struct lists *lists, struct called *ca
     called->read_kept = free_lists(of, lists);
 }
 
+/* Calls a text service on a text for so many cores and lent bytes of this length. */
+void call_text(text_service *service, uint32_t cores, const uint8_t *bytes, size_t len, size_t out_len,
+               struct called *called)
+{
+    uint8_t *text = exact(bytes, len);
+    struct second_written written;
+
+    fill(called);
+    written = service(cores, text, len, called->first + MARGIN, out_len);
+    called->answer = written.answer;
+    called->first_written = written.length;
+    called->read_kept = free_kept(text, bytes, len);
+}
+
 /* The row that limits the row asked for: the one that a set service says is late with one tick more than the allowance,
  * or the row itself where its C would be above its D. */
 uint32_t limiting_row_by_set(list_service *set, const struct lists *lists, const struct called *accepted)

@@ -5,8 +5,8 @@
 #include "cases.h"
 #include "second.h"
 
-/* Lent bytes: a margin, what is lent, and a margin at least as long. */
-enum { MARGIN = 16, LENT_ROOM = 4 + 23 * (ROWS_MAX + 1) + 40, OUTPUT_ROOM = MARGIN + LENT_ROOM + MARGIN };
+/* Lent bytes: a margin, what is lent, and a margin at least as long. The longest is what the csv service writes. */
+enum { MARGIN = 16, LENT_ROOM = 46 + 67 * ROWS_MAX + 40, OUTPUT_ROOM = MARGIN + LENT_ROOM + MARGIN };
 
 typedef struct second_answer table_service(const uint8_t *, size_t, uint8_t *, size_t);
 typedef struct second_answer list_service(const uint8_t *, size_t, const uint8_t *, size_t,
@@ -15,9 +15,10 @@ typedef struct second_answer list_service(const uint8_t *, size_t, const uint8_t
 typedef struct second_why why_service(const uint8_t *, size_t, const uint8_t *, size_t,
                                       const uint8_t *, size_t, uint32_t);
 typedef size_t listing_service(const uint8_t *, size_t, uint8_t *, size_t);
+typedef struct second_written text_service(uint32_t, const uint8_t *, size_t, uint8_t *, size_t);
 
-/* What a call leaves: its answer; the limiting row and the point; a report, a listing or response times; allowances; how
- * many bytes of these it has to write, or says that it wrote; and whether what it read is as it was. */
+/* What a call leaves: its answer; the limiting row and the point; a report, a listing, a text, a table or response times;
+ * allowances; how many bytes of these it has to write, or says that it wrote; and whether what it read is as it was. */
 struct called {
     struct second_answer answer;
     uint32_t limited_by, point;
@@ -32,6 +33,8 @@ void call_listing(listing_service *service, const uint8_t *bytes, size_t len, si
                   struct called *called);
 void call_lists(list_service *service, const struct lists *lists, struct called *called);
 void call_why(why_service *service, const struct lists *lists, struct called *called);
+void call_text(text_service *service, uint32_t cores, const uint8_t *bytes, size_t len, size_t out_len,
+               struct called *called);
 
 /* The row that limits the row asked for, by a set service and what it left of lists that it accepts. */
 uint32_t limiting_row_by_set(list_service *set, const struct lists *lists, const struct called *accepted);

@@ -2,92 +2,30 @@
  * on random cases, and a third opinion on small numbers too. Compares the answer, the row and every byte lent, and
  * stops at the first that differ. Arguments: seed, number of cases. Status 0: none differ, and every number that a
  * service can give was given; 1: some do, or one was not; 2: an argument is no number. */
-#include "arguments.h"
 #include "brute.h"
+#include "compare_texts.h"
+#include "outcomes.h"
 #include "programs.h"
 #include "sheets.h"
+#include "text_sheets.h"
 
 #include <stdio.h>
-#include <stdlib.h>
 #include <string.h>
-
-enum { NUMBERS = 11 }; /* of answers: accepted and refusals up to 10 */
 
 /* Above these, the second program's walk with its repeats, the why services on every row and the third opinion take
  * long. */
 enum { WALKED_ROWS = 16, ASKED_ROWS = 8, SMALL_TICKS = 60, SMALL_WORK = 400 };
 
-/* A kind of cases: how its rows are drawn, what is compared on them, and how often; then what came of it. */
-struct kind {
-    const char *name;
-    void (*draw)(struct rows *);
-    void (*compare)(const struct rows *);
-    unsigned once_in;
-    unsigned long drawn, compared, third, numbers[NUMBERS];
-};
-
-#define KIND(kind, drawn_by, compared_by, times) \
-    { .name = kind, .draw = drawn_by, .compare = compared_by, .once_in = times }
-
-/* A service: the numbers that it can give, and how often it gave them. A listing's number is that of its text. */
-struct service {
-    const char *name;
-    unsigned can_give[NUMBERS], many;
-    unsigned long given[NUMBERS];
-};
-
-static struct run run;
-static struct kind *current; /* the kind of the case at hand */
 static struct service table_numbers = { "table service", { 0, 1, 2, 3, 4, 5, 6, 7 }, 8, { 0 } };
 static struct service set_numbers = { "set service", { 0, 3, 4, 7, 8 }, 5, { 0 } };
 static struct service point_numbers = { "point service", { 0, 3, 4, 7, 8 }, 5, { 0 } };
 static struct service why_numbers = { "why service", { 0, 3, 4, 8, 10 }, 5, { 0 } };
 static struct service listing_numbers = { "listing", { 0, 1, 2, 3, 4, 5, 6 }, 7, { 0 } };
 
-static const struct program third_program = { "the third opinion", brute_table, brute_set, brute_set, brute_why, NULL };
+static const struct program third_program = { .name = "the third opinion", .table = brute_table, .set = brute_set,
+                                              .point = brute_set, .why = brute_why };
 
-/* ---- What differs ---- */
-
-/* Prints bytes in hex on a line. */
-static void print_bytes(const char *name, const uint8_t *bytes, size_t len)
-{
-    printf("  %s, %lu bytes: ", name, (unsigned long)len);
-    for (size_t n = 0; n < len; n++)
-        printf("%02x", bytes[n]);
-    printf("\n");
-}
-
-/* Prints what a call left, with the margins. */
-static void print_called(const char *name, const struct called *called, size_t first_len, size_t second_len)
-{
-    printf("  %s: number %u row %u, limited by %u at %u, %lu bytes to write, what it read %s\n", name,
-           (unsigned)called->answer.number, (unsigned)called->answer.row, (unsigned)called->limited_by,
-           (unsigned)called->point, (unsigned long)called->first_written, called->read_kept ? "kept" : "changed");
-    print_bytes("report, listing or response times, with margins", called->first, MARGIN + first_len + MARGIN);
-    print_bytes("allowances, with margins", called->second, MARGIN + second_len + MARGIN);
-}
-
-/* Says which case the difference is in. */
-static void print_case(const char *what)
-{
-    printf("differ: seed %lu, %s, case %lu of its kind: %s\n", run.seed, current->name, current->drawn, what);
-}
-
-/* Ends the run at the first difference. */
-static void stop(void)
-{
-    printf("compare: %lu cases, 1 differ\n", run.cases);
-    exit(1);
-}
-
-/* ---- What was reached ---- */
-
-/* Counts an input with the number of its answer. */
-static void count(uint32_t number)
-{
-    current->compared++;
-    current->numbers[number]++;
-}
+/* ---- Tables ---- */
 
 /* Counts the number in the text of a listing. */
 static void count_listing(const struct called *called)
@@ -97,21 +35,6 @@ static void count_listing(const struct called *called)
     if (called->first_written > 0)
         listing_numbers.given[memcmp(text, "refused ", 8) == 0 ? text[8] - '0' : 0]++;
 }
-
-/* Says which numbers a service can give and never gave; gives how many. */
-static unsigned never_given(const struct service *service)
-{
-    unsigned never = 0;
-
-    for (unsigned n = 0; n < service->many; n++)
-        if (service->given[service->can_give[n]] == 0) {
-            printf("never reached: %s, number %u\n", service->name, service->can_give[n]);
-            never++;
-        }
-    return never;
-}
-
-/* ---- Tables ---- */
 
 /* Whether the third opinion can be had on a table in reasonable time: few rows of small numbers. */
 static bool small_table(const uint8_t *bytes, size_t len)
@@ -537,6 +460,19 @@ static struct kind kinds[] = {
     KIND("lists: answer list lengths", small_rows, answer_lists_of_lengths, 8),
     KIND("lists: long climbs", long_climbs, lists_climbed, 20),
     KIND("lists: long walks", long_walks, lists_walked, 100),
+    KIND("text: small numbers", small_rows, text_as_drawn, 1),
+    KIND("text: ordinary", ordinary_rows, text_as_drawn, 2),
+    KIND("text: near the limits", limit_rows, text_as_drawn, 16),
+    KIND("text: rows break the limits", broken_rows, text_as_drawn, 1),
+    KIND("text: damaged bytes", small_rows, text_damaged, 1),
+    KIND("text: damaged bytes, any rows", any_rows, text_damaged, 1),
+    KIND("text: cut", small_rows, text_cut, 4),
+    KIND("text: a part twice", any_rows, text_doubled, 1),
+    KIND("text: numbers of many digits", any_rows, text_with_long_number, 1),
+    KIND("text: many rows", any_rows, text_of_many_rows, 4),
+    KIND("text: cores", small_rows, text_of_cores, 1),
+    KIND("text: lent lengths", small_rows, text_lent_lengths, 8),
+    KIND("text: some MiB", small_rows, text_of_mebibytes, 300),
 };
 
 enum { KINDS = sizeof kinds / sizeof kinds[0] };
@@ -573,6 +509,10 @@ static void compare_sheets(void)
         compare_sheet(table_sheet_holds(n, product_program.table, &called), &called);
         compare_sheet(listing_sheet_holds(n, product_program.listing, &called), &called);
     }
+    for (size_t n = 0; n < text_sheets(); n++) {
+        current->drawn++;
+        compare_sheet(text_sheet_holds(n, product_program.csv, product_program.csv_table, &called), &called);
+    }
 }
 
 /* Runs random cases, the kinds in turn, each kind as often as it says. */
@@ -596,7 +536,7 @@ static void compare_cases(void)
 static unsigned long print_kind(const struct kind *kind)
 {
     printf("%-32s%7lu%9lu%7lu%9lu", kind->name, kind->drawn, kind->compared, kind->third, kind->numbers[0]);
-    for (int number = 1; number <= 8; number++)
+    for (int number = 1; number <= 9; number++)
         printf("%8lu", kind->numbers[number]);
     printf("\n");
     return kind->compared;
@@ -612,13 +552,13 @@ static void print_kinds(void)
     printf("%lu inputs compared\n", compared);
 }
 
-/* Prints how often the why service gave each number that it can give. */
-static void print_whys(void)
+/* Prints how often a service gave each number that it can give. */
+static void print_given(const struct service *service)
 {
-    printf("%s:", why_numbers.name);
-    for (unsigned n = 0; n < why_numbers.many; n++)
-        printf(" number %u %lu times%s", why_numbers.can_give[n], why_numbers.given[why_numbers.can_give[n]],
-               n + 1 < why_numbers.many ? "," : "\n");
+    printf("%s:", service->name);
+    for (unsigned n = 0; n < service->many; n++)
+        printf(" number %u %lu times%s", service->can_give[n], service->given[service->can_give[n]],
+               n + 1 < service->many ? "," : "\n");
 }
 
 /* Runs the sheets and the cases of a seed. */
@@ -631,12 +571,15 @@ int main(int argc, char **argv)
            run.cases);
     compare_sheets();
     compare_cases();
-    printf("%-32s%7s%9s%7s%9s%8s%8s%8s%8s%8s%8s%8s%8s\n", "kind", "cases", "inputs", "third", "accepted", "1", "2",
-           "3", "4", "5", "6", "7", "8");
+    printf("%-32s%7s%9s%7s%9s%8s%8s%8s%8s%8s%8s%8s%8s%8s\n", "kind", "cases", "inputs", "third", "accepted", "1", "2",
+           "3", "4", "5", "6", "7", "8", "9");
     print_kinds();
-    print_whys();
+    print_given(&why_numbers);
+    print_given(&csv_numbers);
+    print_given(&csv_table_numbers);
     never = never_given(&table_numbers) + never_given(&set_numbers) + never_given(&point_numbers) +
-            never_given(&why_numbers) + never_given(&listing_numbers);
+            never_given(&why_numbers) + never_given(&listing_numbers) + never_given(&csv_numbers) +
+            never_given(&csv_table_numbers);
     printf("compare: %lu cases, 0 differ, %u numbers never reached\n", run.cases, never);
     return never == 0 ? 0 : 1;
 }

@@ -1,8 +1,10 @@
 /* A front end over the services and the listing, and the example of how to call them: certifies the table in a file,
  * prints its listing, then gives each core's rows to the set service and the point service and says whether they agree
  * with the report. After the word `why` it says of each row instead which row would be late with one tick more than its
- * allowance, by the why service.
+ * allowance, by the why service. After the word `csv` and a number of cores it certifies a spreadsheet and prints its
+ * text with three columns more, by the csv service; after `table` it writes the spreadsheet's table bytes.
  * Status 0: certified; 1: refused; 2: no file to read; 3: a service does not agree. */
+#include "front_sheet.h"
 #include "hibalunduk.h"
 
 #include <stdbool.h>
@@ -165,15 +167,18 @@ static bool print_whys(const struct certificate *certificate)
     return all;
 }
 
-/* Certifies the table of the file named, or of standard input. */
+/* Certifies the table or the sheet of the file named, or of standard input. */
 int main(int argc, char **argv)
 {
     bool why = argc > 1 && strcmp(argv[1], "why") == 0;
     struct certificate certificate;
     struct hibalunduk_answer answer;
 
+    if (argc > 1 && is_sheet_command(argv[1]))
+        return run_sheet_command(argc - 1, argv + 1);
     if (argc > 2 + why || !read_table(argc == 2 + why ? argv[1 + why] : "-", &certificate)) {
-        fprintf(stderr, "usage: front [why] [TABLE], a file of table bytes; standard input without one\n");
+        fprintf(stderr, "usage: front [why] [TABLE], a file of table bytes; or " SHEET_USAGE
+                        "; standard input without a file\n");
         return 2;
     }
     answer = hibalunduk_table(certificate.table, certificate.table_len, certificate.report,

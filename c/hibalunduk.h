@@ -1,5 +1,5 @@
-/* Hibalunduk for programs in C: the three services of document 01 and the listing, and document 02's why service. The
- * documents decide where this page is short.
+/* Hibalunduk for programs in C: the three services of document 01 and the listing, and of document 02 the why service
+ * and the csv service, which takes a table as a spreadsheet exports it. The documents decide where this page is short.
  *
  * A table has rows, numbered from 1, each with an execution time C, a deadline D and a period T in whole ticks,
  * 1 <= C <= D <= T <= 1,000,000. The services say on which core a row goes, its response time, and its
@@ -16,8 +16,8 @@
  * - The answer and the bytes written depend on nothing but the arguments. There is nothing to initialise, nothing
  *   is kept between calls, nothing is allocated. The library has no data of its own and needs of C's nothing but
  *   memcpy and memset. Any number of threads may call at once.
- * - Nothing is written but the report, the two answer lists or the listing, and of those only the bytes named below. The
- *   others keep their content.
+ * - Nothing is written but the report, the two answer lists, the listing or what the csv service is lent, and of those
+ *   only the bytes named below. The others keep their content.
  * - A refused call writes nothing. (The listing of a table that is refused is a line that says so.)
  * - It takes less than 16 KiB of stack (measured).
  * - A call takes as long as is said below (measured, on a processor of 2 GHz; c/benchmark measures it anew).
@@ -42,7 +42,8 @@ enum {
     HIBALUNDUK_TABLE_MAX = 2 + 13 * HIBALUNDUK_ROWS_MAX + 2, /* bytes of a table of 24 rows */
     HIBALUNDUK_REPORT_MAX = 4 + 23 * HIBALUNDUK_ROWS_MAX,    /* bytes of its report */
     HIBALUNDUK_LIST_MAX = 4 * HIBALUNDUK_ROWS_MAX,           /* bytes of a list of 24 numbers */
-    HIBALUNDUK_LISTING_MAX = 1102                            /* bytes that hold every listing */
+    HIBALUNDUK_LISTING_MAX = 1102,                           /* bytes that hold every listing */
+    HIBALUNDUK_CSV_MAX = 46 + 67 * HIBALUNDUK_ROWS_MAX       /* bytes that hold every text of the csv service */
 };
 
 /* An answer: number 0 and row 0 when accepted, else the refusal's number, and its row or 0.
@@ -54,8 +55,9 @@ enum {
  *   4    the first           a row breaks 1 <= C <= D <= T <= 1,000,000
  *   5    0                   kind 4 states another count of rows than was read
  *   6    that row            no core takes a row in the placement; another placement may exist
- *   7    0                   the report or an answer list is shorter than the answer
+ *   7    0                   what is lent for the answer is shorter than it
  *   8    the highest-ranked  a row misses its deadline
+ *   9    the first line      a line of the text is not of the form; the header is line 1
  *   10   0                   the row number asked for is that of no row
  */
 struct hibalunduk_answer {
@@ -72,7 +74,7 @@ struct hibalunduk_answer {
  *
  * Refusals: 1 to 5 as the records are read from the front, the first fault decides. A kind byte is looked at before
  * its body, a 25th kind 2 is refused (3) before its body, a row's limits (4) as soon as its body is there; at kind 4
- * the order is cut short (1), no rows (3), count (5), bytes after (1). Then 7, then 6. Never 8 or 10.
+ * the order is cut short (1), no rows (3), count (5), bytes after (1). Then 7, then 6. Never 8, 9 or 10.
  *
  * A table of more than HIBALUNDUK_TABLE_MAX bytes is always refused, and its first HIBALUNDUK_TABLE_MAX + 1 bytes get
  * the same answer, so no longer buffer is needed to read one.
@@ -89,7 +91,7 @@ struct hibalunduk_answer hibalunduk_table(const uint8_t *table, size_t table_len
  * For n rows it writes 4 n bytes at the front of each answer list; these may be longer, and of any length.
  *
  * Refusals, in this order: 3 when c_len, d_len and t_len are not one and the same multiple of four from 4 to
- * HIBALUNDUK_LIST_MAX; 4; 7 when an answer list is shorter than c_len; 8. Never 1, 2, 5, 6 or 10.
+ * HIBALUNDUK_LIST_MAX; 4; 7 when an answer list is shorter than c_len; 8. Never 1, 2, 5, 6, 9 or 10.
  *
  * Time: microseconds for a few rows, below a millisecond for 24. The slowest lists found, short rows that leave next to
  * nothing of the core and slow rows below them, take 0.8 seconds.
@@ -128,7 +130,7 @@ struct hibalunduk_why {
  * greatest: with the whole allowance the limiting row still ends by that time.
  *
  * Refusals, in this order: 3 and 4 as in the set service; 10 when `row` is 0 or above the number of rows; 8. Never 1, 2,
- * 5, 6 or 7.
+ * 5, 6, 7 or 9.
  *
  * Time: below a microsecond for a few rows, below a millisecond for 24; on each list of c/benchmark what a call of the
  * point service takes, or less.
@@ -149,6 +151,50 @@ struct hibalunduk_why hibalunduk_why(const uint8_t *c, size_t c_len,
  * Time: that of the table service.
  */
 size_t hibalunduk_listing(const uint8_t *table, size_t table_len, uint8_t *listing, size_t listing_len);
+
+/* An answer of the csv service: number and row as above, and how many bytes were written; 0 on a refusal. */
+struct hibalunduk_written {
+    uint32_t number;
+    uint32_t row;
+    uint32_t length;
+};
+
+/* The csv service: reads a table as comma-separated text, certifies it on so many cores, and writes the text with each
+ * row's core, response time and allowance.
+ *
+ * The text is bytes, of any length. Its first line is the header `wcet,deadline,period`, in lower case; then there is a
+ * line for each row with its C, D and T, three fields of decimal digits with commas between. A name or a field is plain
+ * or in quotes ("12"); a field has one digit or more, leading zeros are allowed, and its number has no bound. A line ends
+ * in CRLF or in LF, each line as it likes; the last end may be missing. A CR that no LF follows is no line end. Nothing
+ * else is of the form: no space, no sign, no byte order mark, no empty line (not even at the end), no empty field, no
+ * line end and no quote within quotes.
+ *
+ * Written at the front of `out`: the line `wcet,deadline,period,core,response,allowance`, then a line for each row with
+ * its six numbers, plain and without leading zeros; each line ends in CRLF, no byte 0 follows. HIBALUNDUK_CSV_MAX bytes
+ * are always enough. The first three columns of what is written are a text of the form, and the same table.
+ *
+ * Refusals, in this order: 9, judged over the whole text, with the first line that is not of the form as the row (the
+ * header is line 1, and the first line of no text at all is not of the form; a line beyond 4294967295 is given as that);
+ * 2; then by rows from the front, 3 at a 25th, before its limits, and 4, with the row's number (the header not counted),
+ * however many digits a number has; 3 when there are no rows; 6; 7 when `out` is shorter than what is to be written.
+ * Never 1, 5, 8 or 10.
+ *
+ * Time: that of the table service, and of reading the text once from the front.
+ */
+struct hibalunduk_written hibalunduk_csv(uint32_t cores, const uint8_t *text, size_t text_len,
+                                         uint8_t *out, size_t out_len);
+
+/* The table that a text is, as bytes for the table service: reads a text as the csv service does, and writes kind 1, a
+ * kind 2 for each row and kind 4 at the front of `out`, 4 + 13 n bytes for n rows. HIBALUNDUK_TABLE_MAX bytes are always
+ * enough.
+ *
+ * Refusals, in this order: 9, 2, 3 and 4 as in the csv service; 7 when `out` is shorter than those bytes. Never 6: no row
+ * is placed.
+ *
+ * Time: that of reading the text once from the front.
+ */
+struct hibalunduk_written hibalunduk_csv_table(uint32_t cores, const uint8_t *text, size_t text_len,
+                                               uint8_t *out, size_t out_len);
 
 #ifdef __cplusplus
 }

@@ -1,4 +1,4 @@
-/* The product and the second program, each as four services and the listing in the second program's form. */
+/* The product and the second program, each as its services and the listing in the second program's form. */
 #include "programs.h"
 
 #include "hibalunduk.h"
@@ -42,7 +42,27 @@ static struct second_why product_why(const uint8_t *c, size_t c_len, const uint8
     return (struct second_why){ { why.number, why.row }, why.limited_by, why.point };
 }
 
-const struct program product_program = { "the product", product_table, product_set, product_point,
-                                         product_why, hibalunduk_listing };
-const struct program second_program = { "the second program", second_table, second_set, second_point,
-                                        second_why, second_listing };
+/* An answer of the product with the bytes that it wrote. */
+static struct second_written wrote(struct hibalunduk_written written)
+{
+    return (struct second_written){ { written.number, written.row }, written.length };
+}
+
+/* The product's csv service. */
+static struct second_written product_csv(uint32_t cores, const uint8_t *text, size_t text_len,
+                                         uint8_t *out, size_t out_len)
+{
+    return wrote(hibalunduk_csv(cores, text, text_len, out, out_len));
+}
+
+/* The product's table of a text. */
+static struct second_written product_csv_table(uint32_t cores, const uint8_t *text, size_t text_len,
+                                               uint8_t *out, size_t out_len)
+{
+    return wrote(hibalunduk_csv_table(cores, text, text_len, out, out_len));
+}
+
+const struct program product_program = { "the product", product_table, product_set, product_point, product_why,
+                                         hibalunduk_listing, product_csv, product_csv_table };
+const struct program second_program = { "the second program", second_table, second_set, second_point, second_why,
+                                        second_listing, second_csv, second_csv_table };

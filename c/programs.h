@@ -1,16 +1,17 @@
-/* The product and the second program, each as four services and the listing in one form. */
+/* The product and the second program, each as its services and the listing in one form. */
 #ifndef PROGRAMS_H
 #define PROGRAMS_H
 
 #include "calls.h"
 
-/* A program: its four services and its listing. */
+/* A program: its services and its listing. */
 struct program {
     const char *name;
     table_service *table;
     list_service *set, *point;
     why_service *why;
     listing_service *listing;
+    text_service *csv, *csv_table;
 };
 
 extern const struct program product_program, second_program;

@@ -1,4 +1,4 @@
-/* The second program's services: document 01 and request 1 in plain C, written from their words alone. */
+/* The second program's services: document 01 and requests 1 and 2 in plain C, written from their words alone. */
 #ifndef SECOND_H
 #define SECOND_H
 
@@ -40,5 +40,18 @@ struct second_why second_why(const uint8_t *c, size_t c_len, const uint8_t *d, s
 
 /* The listing of a table: the number of bytes written, 0 and nothing written when out is too short. */
 size_t second_listing(const uint8_t *table, size_t table_len, uint8_t *out, size_t out_len);
+
+/* An answer of the csv service; its row is the line where the number is 9, and the length written is 0 on a refusal. */
+struct second_written {
+    struct second_answer answer;
+    uint32_t length;
+};
+
+/* The csv service: a spreadsheet's text and a number of cores to the text with three columns more. */
+struct second_written second_csv(uint32_t cores, const uint8_t *text, size_t text_len, uint8_t *out, size_t out_len);
+
+/* The same text to table bytes. */
+struct second_written second_csv_table(uint32_t cores, const uint8_t *text, size_t text_len,
+                                       uint8_t *out, size_t out_len);
 
 #endif
