@@ -2,22 +2,20 @@
 use mathlib.Core.Path.{_≡_, refl, sym, ap, subst, _∙_}
 use Prim.Native.Nat.{ℕ, suc, _+_, _≤_, suc-le-suc}
 use native.Mathlib.Omega.{arith}
-use mathlib.Core.Bool.{Bool, true, false, _&&_}
+use mathlib.Core.Bool.{false}
 use mathlib.Core.List.{List, [], _∷_, flatMap}
-use lib.Dec.{leb, ltb}
 use lib.ListN.{length}
 use borrow.Author.Tests.{le-leb, le-ltb}
-use Rattle.theory.specs.Row.{Row, withinLimits, AllWithin}
+use Rattle.theory.specs.Row.{Row, AllWithin}
 use Rattle.theory.specs.Gather.{All, every}
 use Rattle.theory.proofs.Limits.{keeping-limits-passes}
 use Rattle.placement.specs.Core.{Table}
 use Rattle.placement.specs.Figures.{Figures}
-use Rattle.records.specs.Reading.{Reading, table, refused, TableWithin}
-use Rattle.records.proofs.ReadingRecord.{refusal-no-table}
+use Rattle.records.specs.Reading.{Reading, table, TableWithin}
 use Rattle.listing.specs.Listing.{ascii, decimal}
-use Rattle.texts.specs.Text.{Text, inFront, linesOf, fieldsOf, held, names, sameBytes, hold, of-rows, not-of-the-form, headed, textOf}
+use Rattle.texts.specs.Text.{inFront, linesOf, fieldsOf, held, names, sameBytes, hold, of-rows, not-of-the-form, headed, textOf}
 use Rattle.texts.proofs.Reading.{read-text-within, read-text-cores}
-use Rattle.texts.specs.Table.{onCores, judged, tableFrom, inRowsPlace, readText}
+use Rattle.texts.specs.Table.{onCores, judged, tableFrom, readText}
 use Rattle.texts.specs.Columns.{allNames, certifiedLine, certifiedLines, certifiedText, firstColumns}
 use Rattle.texts.specs.Forms.{plain, NumberField, digits, header, numbers, CR-LF, line-end, RowLines, no-rows, with-row, Written, written}
 use Rattle.texts.proofs.Lines.{Ordinary}
