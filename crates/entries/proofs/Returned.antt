@@ -18,7 +18,8 @@ use Rattle.records.specs.ListBytes.{numbersIn, BytesAnswered, not-fours, as-num
 use Rattle.records.proofs.BytesAnswered.{bytes-answered-unique}
 use Rattle.records.proofs.BytesExplained.{bytes-explained-unique}
 use Rattle.service.proofs.Table.{table-answered-unique, listing-answered-unique}
-use Rattle.entries.specs.Entry.{TableReturned, ListsReturned, SetReturned, PointReturned, ListingReturned, WhyReturned}
+use Rattle.service.proofs.Text.{text-answered-unique, text-tabled-unique}
+use Rattle.entries.specs.Entry.{TableReturned, ListsReturned, SetReturned, PointReturned, ListingReturned, WhyReturned, TextReturned, TextTableReturned}
 
 -- what is returned has one number and one row
 number-and-row : {number other row other-row : ℕ} → returned number row ≡ returned other other-row → (number ≡ other) × (row ≡ other-row)
@@ -91,3 +92,19 @@ why-returned-unique {cs} {ds} {ts} {asked} p q =
     let same = bytes-explained-unique cs ds ts asked p q in
     let numbers = number-and-row (same .same-answer) in
     (numbers .0, numbers .1, same .same-row, same .same-point)
+
+-- THE RESULTS OF THE ENTRIES ON A TEXT ARE DETERMINED
+module _ {cores : ℕ} {text lent : List ℕ} {number other row other-row written other-written : ℕ} {first second : List ℕ} where
+  pub text-returned-unique : TextReturned cores text lent number row written first → TextReturned cores text lent other other-row other-written second
+      → (number ≡ other) × (row ≡ other-row) × (written ≡ other-written) × (first ≡ second)
+  text-returned-unique p q =
+      let same = text-answered-unique cores text lent allowance-fit-is-rule p q in
+      let numbers = number-and-row (same .same-answer) in
+      (numbers .0, numbers .1, same .same-length, same .same-bytes)
+
+  pub text-table-returned-unique : TextTableReturned cores text lent number row written first → TextTableReturned cores text lent other other-row other-written second
+      → (number ≡ other) × (row ≡ other-row) × (written ≡ other-written) × (first ≡ second)
+  text-table-returned-unique p q =
+      let same = text-tabled-unique cores text lent p q in
+      let numbers = number-and-row (same .same-answer) in
+      (numbers .0, numbers .1, same .same-length, same .same-bytes)
