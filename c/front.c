@@ -4,7 +4,7 @@
  * allowance, by the why service. After the word `csv` and a number of cores it certifies a spreadsheet and prints its
  * text with three columns more, by the csv service; after `table` it writes the spreadsheet's table bytes.
  * Status 0: certified; 1: refused; 2: no file to read; 3: a service does not agree. */
-#include "front_sheet.h"
+#include "front_text.h"
 #include "hibalunduk.h"
 
 #include <stdbool.h>
@@ -167,17 +167,17 @@ static bool print_whys(const struct certificate *certificate)
     return all;
 }
 
-/* Certifies the table or the sheet of the file named, or of standard input. */
+/* Certifies the table or the text of the file named, or of standard input. */
 int main(int argc, char **argv)
 {
     bool why = argc > 1 && strcmp(argv[1], "why") == 0;
     struct certificate certificate;
     struct hibalunduk_answer answer;
 
-    if (argc > 1 && is_sheet_command(argv[1]))
-        return run_sheet_command(argc - 1, argv + 1);
+    if (argc > 1 && is_text_command(argv[1]))
+        return run_text_command(argc - 1, argv + 1);
     if (argc > 2 + why || !read_table(argc == 2 + why ? argv[1 + why] : "-", &certificate)) {
-        fprintf(stderr, "usage: front [why] [TABLE], a file of table bytes; or " SHEET_USAGE
+        fprintf(stderr, "usage: front [why] [TABLE], a file of table bytes; or " TEXT_USAGE
                         "; standard input without a file\n");
         return 2;
     }

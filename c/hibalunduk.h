@@ -179,7 +179,7 @@ struct hibalunduk_written {
  * however many digits a number has; 3 when there are no rows; 6; 7 when `out` is shorter than what is to be written.
  * Never 1, 5, 8 or 10.
  *
- * Time: that of the table service, and of reading the text once from the front, more than 100 MiB in a second.
+ * Time: that of the table service, and of reading the text once from the front, more than 50 MiB in a second.
  */
 struct hibalunduk_written hibalunduk_csv(uint32_t cores, const uint8_t *text, size_t text_len,
                                          uint8_t *out, size_t out_len);

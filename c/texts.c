@@ -167,7 +167,8 @@ static void draw_digits(char *digits)
     digits[len] = '\0';
 }
 
-/* Draws a number for a field of a text with one row or more. */
+/* Draws a number for a field of a text with one row or more: digits, or the row's own number added to a number of many
+ * digits, which is 0 more often than another. */
 void draw_long_number(const struct rows *rows, size_t count, struct long_number *number)
 {
     static const char *const around[] = { "4294967296", "18446744073709551616", "340282366920938463463374607431768211456",
@@ -183,7 +184,7 @@ void draw_long_number(const struct rows *rows, size_t count, struct long_number 
         draw_digits(number->digits);
         return;
     }
-    strcpy(number->digits, around[below(11)]);
+    strcpy(number->digits, around[below(sizeof around / sizeof around[0])]);
     if (once_in(3))
         add_to_digits(number->digits, below(3));
     else
@@ -195,7 +196,7 @@ uint32_t draw_cores(void)
 {
     static const uint32_t others[] = { 0, 9, 10, 255, 256, 257, 264, 65537, UINT32_C(0x80000001), UINT32_MAX };
 
-    return once_in(2) ? below(CORES_MAX + 2) : others[below(10)];
+    return once_in(2) ? below(CORES_MAX + 2) : others[below(sizeof others / sizeof others[0])];
 }
 
 /* ---- What spoils a text ---- */
@@ -254,7 +255,7 @@ void damage_field(struct text *text)
 {
     static const char *const pieces[] = { "\"\"", "\"\"\"\"", "\r\n", "\n\r",
                                           "\r\r\n", "\"\r\n\"", ",\"\"", "\xEF\xBB\xBF" };
-    const char *piece = pieces[below(8)];
+    const char *piece = pieces[below(sizeof pieces / sizeof pieces[0])];
     size_t at = draw_place(text), to;
 
     if (once_in(2)) {
