@@ -20,6 +20,7 @@ use Rattle.records.specs.Reading.{table, refused}
 use Rattle.listing.specs.Listing.{ascii, digitsBefore, decimal}
 use Rattle.texts.specs.Text.{LF, CR, inFront, linesOf, fieldsOf, held, numberFrom, numberIn, rowFrom, rowIn, names, sameBytes, hold, of-rows, not-of-the-form, withRow, rowsFrom, headed, textOf}
 use Rattle.texts.specs.Table.{judged, tableFrom, inRowsPlace, onCores, readText}
+use Rattle.texts.specs.Forms.{joined}
 use Rattle.texts.specs.Columns.{lineOf, allNames, certifiedLine, certifiedLines, certifiedText}
 use Rattle.texts.proofs.Whole.{InLine}
 use Rattle.texts.proofs.Ends.{EndsIn, last-byte}
@@ -60,7 +61,7 @@ known : T (passes (text-accepted 1 fives fivesWritten))
     × T (passes (text-refused 1 (underHeader (ascii "1,,2\n")) 9 2))
     × T (passes (text-refused 1 (underHeader []) 3 0))
     × T (passes (text-refused 2 textOfSheetFour 6 5))
-unfolding row underHeader textOfSheetFour passes sameList isSet isTable upFrom keep sum every insert sort best rivals levels ceil demand load climb outcome onTime lastMultiple walk points slack floorDiv times quotient bound pointAllowance allowance coreAllowance coreRows placeOnCore taken takes candidateAt takers chosenOf stepOf run figuresOf certificateOf certificate ascii digitsBefore decimal inFront linesOf fieldsOf held numberFrom numberIn rowFrom rowIn names sameBytes hold withRow rowsFrom headed textOf judged tableFrom inRowsPlace onCores readText lineOf allNames certifiedLine certifiedLines certifiedText
+unfolding row underHeader textOfSheetFour passes sameList isSet isTable upFrom keep sum every insert sort best rivals levels ceil demand load climb outcome onTime lastMultiple walk points slack floorDiv times quotient bound pointAllowance allowance coreAllowance coreRows placeOnCore taken takes candidateAt takers chosenOf stepOf run figuresOf certificateOf certificate ascii digitsBefore decimal inFront linesOf fieldsOf held numberFrom numberIn rowFrom rowIn names sameBytes hold withRow rowsFrom headed textOf judged tableFrom inRowsPlace onCores readText joined lineOf allNames certifiedLine certifiedLines certifiedText
 known = (tt, tt, tt, tt, tt, tt, tt)
 
 -- what they are as texts

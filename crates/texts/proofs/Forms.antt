@@ -13,9 +13,10 @@ use Rattle.theory.specs.Gather.{All, every}
 use Rattle.theory.proofs.Each.{all-map, every-all}
 use Rattle.listing.specs.Listing.{ascii}
 use Rattle.texts.specs.Text.{comma, linesOf, fieldsOf, rowFrom, rowIn, names, sameBytes, hold, of-rows, withRow, rowsFrom, headed, textOf}
-use Rattle.texts.specs.Forms.{threeFields, HeaderLine, header, RowLine, numbers, RowLines, no-rows, with-row, Written, written}
+use Rattle.texts.specs.Forms.{joined, HeaderLine, header, RowLine, numbers, RowLines, no-rows, with-row, Written, written}
 use Rattle.texts.proofs.Lines.{Ordinary}
-use Rattle.texts.proofs.Whole.{InLine, line-in-front, three-in-line, three-read}
+use Rattle.texts.proofs.Whole.{InLine, line-in-front}
+use Rattle.texts.proofs.Joined.{OrdinaryFields, joined-in-line, joined-read}
 use Rattle.texts.proofs.Fields.{field-holds, field-ordinary, number-field-read, number-field-ordinary}
 
 -- a name is of letters, which are a field's own
@@ -38,12 +39,13 @@ record IsLine (Right : List (List ℕ) → Type 0) (line : List ℕ) : Type 0 wh
   right : Right (fieldsOf line)
 
 three-fields-line :
-    (Right : List (List ℕ) → Type 0) (first second third : List ℕ) → All Ordinary first → All Ordinary second → All Ordinary third → Right (first ∷ (second ∷ (third ∷ [])))
-    → IsLine Right (threeFields first second third)
-three-fields-line Right first second third own-first own-second own-third right = record {
-  own = three-in-line first second third own-first own-second own-third;
+    (Right : List (List ℕ) → Type 0) (first second third : List ℕ) → OrdinaryFields (first ∷ (second ∷ (third ∷ []))) → Right (first ∷ (second ∷ (third ∷ [])))
+    → IsLine Right (joined (first ∷ (second ∷ (third ∷ []))))
+unfolding joined
+three-fields-line Right first second third own right = record {
+  own = joined-in-line (first ∷ (second ∷ (third ∷ []))) own;
   not-empty = omega (arith, length-append first (comma ∷ (second ++ (comma ∷ third))));
-  right = subst Right (sym (three-read first second third own-first own-second own-third)) right;
+  right = subst Right (sym (joined-read first (second ∷ (third ∷ [])) own)) right;
 }
 
 -- the header's line is read as the header
@@ -51,16 +53,14 @@ header-read : {line : List ℕ} → HeaderLine line → IsLine (λ fields. hold 
 unfolding names hold ascii every
 header-read (header {wcet} {deadline} {period} w d p) =
     three-fields-line (λ fields. hold fields names ≡ true) wcet deadline period
-    (field-ordinary (name-ordinary (ascii "wcet") tt) w)
-    (field-ordinary (name-ordinary (ascii "deadline") tt) d)
-    (field-ordinary (name-ordinary (ascii "period") tt) p)
+    (field-ordinary (name-ordinary (ascii "wcet") tt) w, (field-ordinary (name-ordinary (ascii "deadline") tt) d, (field-ordinary (name-ordinary (ascii "period") tt) p, tt)))
     (rw (field-holds refl w, same-bytes (ascii "wcet"), field-holds refl d, same-bytes (ascii "deadline"), field-holds refl p, same-bytes (ascii "period")))
 
 -- a row's line is read as the row
 row-read : {row : Row} {line : List ℕ} → RowLine row line → IsLine (λ fields. rowIn fields ≡ some row) line
 unfolding rowIn rowFrom
 row-read {row} (numbers {c} {d} {t} is-c is-d is-t) =
-    three-fields-line (λ fields. rowIn fields ≡ some row) c d t (number-field-ordinary is-c) (number-field-ordinary is-d) (number-field-ordinary is-t)
+    three-fields-line (λ fields. rowIn fields ≡ some row) c d t (number-field-ordinary is-c, (number-field-ordinary is-d, (number-field-ordinary is-t, tt)))
     (rw (number-field-read is-c, number-field-read is-d, number-field-read is-t))
 
 -- the lines of rows, numbered from any number on, are read as them

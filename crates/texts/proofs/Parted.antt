@@ -8,9 +8,8 @@ use lib.Dec.{eqb}
 use borrow.Author.Tests.{eqb-true}
 use Rattle.theory.proofs.Limits.{both-pass}
 use Rattle.texts.specs.Text.{LF, CR, comma, beginsWith, inFront, linesOf, fieldsOf}
-use Rattle.texts.specs.Forms.{LF-alone, CR-LF, Behind, line-end, end-of-text}
+use Rattle.texts.specs.Forms.{joined, LF-alone, CR-LF, Behind, line-end, end-of-text}
 use Rattle.texts.proofs.Lines.{some-field}
-use Rattle.texts.proofs.Joined.{joined}
 
 -- a text whose lines are a first and others: the first, what stands behind it, and the text of the others
 pub record FirstLine (text line : List ℕ) (lines : List (List ℕ)) : Type 0 where

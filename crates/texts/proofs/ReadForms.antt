@@ -14,10 +14,9 @@ use Rattle.theory.specs.Row.{Row}
 use Rattle.theory.proofs.Limits.{both-pass}
 use Rattle.listing.specs.Listing.{ascii}
 use Rattle.texts.specs.Text.{Text, quote, linesOf, fieldsOf, held, numberIn, rowFrom, rowIn, names, sameBytes, hold, of-rows, not-of-the-form, withRow, rowsFrom, headed, textOf}
-use Rattle.texts.specs.Forms.{FieldOf, plain, quoted, NumberField, digits, threeFields, HeaderLine, header, RowLine, numbers, RowLines, no-rows, with-row, Written, written}
+use Rattle.texts.specs.Forms.{FieldOf, plain, quoted, NumberField, digits, joined, HeaderLine, header, RowLine, numbers, RowLines, no-rows, with-row, Written, written}
 use Rattle.texts.proofs.Forms.{written-read}
 use Rattle.texts.proofs.Alike.{Pairwise, no-parts, two, passed-same}
-use Rattle.texts.proofs.Joined.{joined}
 use Rattle.texts.proofs.Parted.{FirstLine, first-line, no-lines, fields-joined}
 use Rattle.texts.proofs.Zeros.{number-form}
 
@@ -61,8 +60,7 @@ name-field field name same = subst (λ (content : List ℕ). FieldOf content fie
 -- ---- lines
 
 -- a line of three fields
-three-joined : (line first second third : List ℕ) → fieldsOf line ≡ first ∷ (second ∷ (third ∷ [])) → threeFields first second third ≡ line
-unfolding joined
+three-joined : (line first second third : List ℕ) → fieldsOf line ≡ first ∷ (second ∷ (third ∷ [])) → joined (first ∷ (second ∷ (third ∷ []))) ≡ line
 three-joined line first second third fields = ap joined (sym fields) ∙ fields-joined line
 
 -- three numbers that are a row are its own

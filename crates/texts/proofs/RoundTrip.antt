@@ -17,12 +17,12 @@ use Rattle.texts.specs.Text.{inFront, linesOf, fieldsOf, held, names, sa
 use Rattle.texts.proofs.Reading.{read-text-within, read-text-cores}
 use Rattle.texts.specs.Table.{onCores, judged, tableFrom, readText}
 use Rattle.texts.specs.Columns.{allNames, certifiedLine, certifiedLines, certifiedText, firstColumns}
-use Rattle.texts.specs.Forms.{plain, NumberField, digits, header, numbers, CR-LF, line-end, RowLines, no-rows, with-row, Written, written}
+use Rattle.texts.specs.Forms.{joined, plain, NumberField, digits, header, numbers, CR-LF, line-end, RowLines, no-rows, with-row, Written, written}
 use Rattle.texts.proofs.Lines.{Ordinary}
 use Rattle.texts.proofs.Digits.{decimal-digits}
 use Rattle.texts.proofs.Fields.{digits-ordinary}
 use Rattle.texts.proofs.Forms.{name-ordinary, written-read}
-use Rattle.texts.proofs.Joined.{joined, OrdinaryFields, three-line, line-of-read, first-columns-line}
+use Rattle.texts.proofs.Joined.{OrdinaryFields, line-of, line-of-read, first-columns-line}
 
 decimal-ordinary : (n : ℕ) → All Ordinary (decimal n)
 decimal-ordinary n = digits-ordinary (decimal n) (decimal-digits n)
@@ -47,7 +47,7 @@ first-columns-lines (row ∷ rows) (figures ∷ all) as-many =
     let own = decimal-ordinary in
     let line = first-columns-line (decimal (row .C)) (decimal (row .D) ∷ (decimal (row .T) ∷ (decimal (figures .core) ∷ (decimal (figures .response) ∷ (decimal (figures .allowance) ∷ []))))) (certifiedLines rows all)
     (own (row .C), (own (row .D), (own (row .T), (own (figures .core), (own (figures .response), (own (figures .allowance), tt)))))) in
-    subst (RowLines (row ∷ rows)) (sym (line ∙ three-line (decimal (row .C)) (decimal (row .D)) (decimal (row .T)) behind))
+    subst (RowLines (row ∷ rows)) (sym (line ∙ line-of (decimal (row .C) ∷ (decimal (row .D) ∷ (decimal (row .T) ∷ []))) behind))
     (with-row (numbers (decimal-field (row .C)) (decimal-field (row .D)) (decimal-field (row .T))) (line-end behind CR-LF) (first-columns-lines rows all (omega arith)))
 
 -- so are those of the text
@@ -56,7 +56,7 @@ unfolding certifiedText allNames names
 first-columns-written rows all as-many =
     let behind = firstColumns (certifiedLines rows all) in
     let line = first-columns-line (ascii "wcet") (ascii "deadline" ∷ (ascii "period" ∷ (ascii "core" ∷ (ascii "response" ∷ (ascii "allowance" ∷ []))))) (certifiedLines rows all) names-ordinary in
-    subst (Written rows) (sym (line ∙ three-line (ascii "wcet") (ascii "deadline") (ascii "period") behind))
+    subst (Written rows) (sym (line ∙ line-of (ascii "wcet" ∷ (ascii "deadline" ∷ (ascii "period" ∷ []))) behind))
     (written (header plain plain plain) (line-end behind CR-LF) (first-columns-lines rows all as-many))
 
 -- THE FIRST THREE COLUMNS ARE READ

@@ -49,7 +49,8 @@ unfoldable pub fieldsOf : List ℕ → List (List ℕ)
 fieldsOf [] = [] ∷ []
 fieldsOf (byte ∷ line) = elim (eqb byte comma) [ true ↦ [] ∷ fieldsOf line | false ↦ inFront byte (fieldsOf line) ]
 
--- what a field holds: what stands between its quotes where it begins and ends with one, else all of it
+-- what a field holds: what stands between its quotes where it begins and ends with one, else all of it. One quote alone is no two: behind it is nothing, whose last
+-- place counts as 0 and whose byte there as 0.
 unfoldable pub held : List ℕ → List ℕ
 held [] = []
 held (byte ∷ field) =
@@ -95,9 +96,9 @@ sameBytes (byte ∷ bytes) (other ∷ others) = eqb byte other && sameBytes byte
 -- whether fields hold names, one each
 unfoldable pub hold : List (List ℕ) → List (List ℕ) → Bool
 hold [] [] = true
-hold [] (name ∷ names) = false
+hold [] (name ∷ others) = false
 hold (field ∷ fields) [] = false
-hold (field ∷ fields) (name ∷ names) = sameBytes (held field) name && hold fields names
+hold (field ∷ fields) (name ∷ others) = sameBytes (held field) name && hold fields others
 
 -- a text is the rows of a table, or its first line that is not of the form has a number; the header is line 1
 pub data Text : Type 0 where
