@@ -13,7 +13,8 @@ use Rattle.texts.specs.Forms.{digitZero, FieldOf, plain, quoted, LineEnd
 use Rattle.texts.proofs.Lines.{Ordinary, some-line, line-goes-on, ordinary-in-field}
 use Rattle.texts.proofs.Digits.{zeros-digits, zeros-longer, some-digits, zeros-read}
 use Rattle.texts.proofs.Fields.{field-holds, field-ordinary, field-longer, digits-ordinary, digits-no-quote}
-use Rattle.texts.proofs.Alike.{Pairwise, Alike, same-content, same-number, AlikeLines, alike-itself, line-alike-itself, each-alike, alike-headed}
+use Rattle.texts.proofs.ThreeFields.{Pairwise}
+use Rattle.texts.proofs.Alike.{Alike, same-content, same-number, AlikeLines, alike-itself, line-alike-itself, each-alike, alike-headed}
 use Rattle.texts.proofs.Starts.{Start, all-alike, empty-in-front, comma-in-front, same-behind}
 
 -- a field begins behind a text: it is empty, or ends in a comma or in a line end
