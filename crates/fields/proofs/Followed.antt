@@ -11,7 +11,7 @@ use Rattle.fields.specs.declared.Place.{Place}
 use Rattle.fields.specs.declared.Place.the-variants.{At, Nowhere}
 use Rattle.fields.specs.declared.Behind.{Behind}
 use Rattle.fields.specs.declared.Behind.the-variants.{Comma, LineEnd}
-use Rattle.fields.specs.Found.{EndsAt, Follow, IsBetween, Between, Followed, NotFollowed, IsNameThen}
+use Rattle.fields.specs.Found.{Named, EndsAt, Follow, IsBetween, Between, Followed, NotFollowed, IsNameThen}
 
 module _ (Right : List ℕ → Type 0) (behind : Behind) (text : List ℕ) (at end : ℕ) (ends : EndsAt Right text at end) where
   -- a right field, and what has to stand behind it
@@ -30,11 +30,11 @@ module _ (Right : List ℕ → Type 0) (behind : Behind) (text : List ℕ) (at e
 
 -- a name, and what has to stand behind it
 pub name-followed :
-    (name : List ℕ) (behind : Behind) (text : List ℕ) (at end : ℕ) → EndsAt (λ bytes. bytes ≡ name) text at end
+    (name : List ℕ) (behind : Behind) (text : List ℕ) (at end : ℕ) → EndsAt (Named name) text at end
     → (place : Place) → IsBetween behind text end place
     → IsNameThen behind name text at place
-name-followed name behind text at end ends (At next) between = followed (λ bytes. bytes ≡ name) behind text at end ends next between
-name-followed name behind text at end ends Nowhere between = not-followed (λ bytes. bytes ≡ name) behind text at end ends between
+name-followed name behind text at end ends (At next) between = followed (Named name) behind text at end ends next between
+name-followed name behind text at end ends Nowhere between = not-followed (Named name) behind text at end ends between
 
 -- three fields with what has to stand behind each: the fields of the line from a place on
 module _ (One Two Three : List ℕ → Type 0) (text : List ℕ) where

@@ -8,12 +8,12 @@ use mathlib.Core.Option.{Option, none, some, IsSome}
 use lib.ListN.{drop}
 use Rattle.listing.specs.Listing.{ascii}
 use Rattle.texts.specs.Text.{fieldsOf, held, numberIn, rowIn, names, hold}
-use Rattle.texts.specs.Rest.{restOfLine, restOfField}
+use Rattle.texts.specs.Rest.{restOfLine, restOfField, IsNumber}
 use Rattle.texts.proofs.ThreeFields.{three-numbers-row, no-row, Pairwise, no-parts, two, Holds, names-held, names-not-held}
 use Rattle.fields.specs.declared.Place.{Place}
 use Rattle.fields.specs.declared.Place.the-variants.{At, Nowhere}
 use Rattle.fields.specs.declared.Behind.the-variants.{Comma, LineEnd}
-use Rattle.fields.specs.Found.{IsNumber, Held, Followed, RowAt, IsNameThen, IsHeader}
+use Rattle.fields.specs.Found.{Held, Named, Followed, RowAt, IsNameThen, IsHeader}
 use Rattle.fields.proofs.Followed.{NotThree, not-third, all-three, lines-left}
 
 -- the number that is there
@@ -45,10 +45,6 @@ module _ (text : List ℕ) (at : ℕ) where
         inside = is-t .0 .inside;
         further = omega (arith, is-c .0 .further, is-d .0 .further, is-t .0 .further);
       }
-
--- a field that holds a name
-abbrev pub Named : List ℕ → List ℕ → Type 0
-Named name bytes = bytes ≡ name
 
 module _ (text : List ℕ) where
   -- a line with a field that is not so is no header

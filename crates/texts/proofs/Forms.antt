@@ -13,7 +13,7 @@ use Rattle.theory.proofs.Each.{all-map, every-all}
 use Rattle.listing.specs.Listing.{ascii}
 use Rattle.texts.specs.Text.{comma, linesOf, fieldsOf, rowIn, names, hold, of-rows, withRow, rowsFrom, headed, textOf}
 use Rattle.texts.specs.Forms.{joined, HeaderLine, header, RowLine, numbers, RowLines, no-rows, with-row, Written, written}
-use Rattle.texts.proofs.Lines.{Ordinary}
+use Rattle.texts.proofs.Lines.{Ordinary, plain-ordinary}
 use Rattle.texts.proofs.Whole.{InLine, line-in-front}
 use Rattle.texts.proofs.Joined.{OrdinaryFields, joined-in-line, joined-read}
 use Rattle.texts.proofs.ThreeFields.{three-numbers-row, no-parts, two, names-held}
@@ -21,10 +21,7 @@ use Rattle.texts.proofs.Fields.{field-holds, field-ordinary, number-fie
 
 -- a name is of letters, which are a field's own
 pub name-ordinary : (name : List ℕ) → T (every (leb 97) name) → All Ordinary name
-name-ordinary name letters =
-    all-map name
-    (λ byte letter. let from-a = leb→le 97 byte letter in record { no-LF = λ e. omega arith; no-CR = λ e. omega arith; no-comma = λ e. omega arith })
-    (every-all (leb 97) name letters)
+name-ordinary name letters = plain-ordinary name (all-map name (λ byte letter. let from-a = leb→le 97 byte letter in omega arith) (every-all (leb 97) name letters))
 
 -- a line, with what its fields are: its bytes are a line's own, and there are some
 record IsLine (Right : List (List ℕ) → Type 0) (line : List ℕ) : Type 0 where

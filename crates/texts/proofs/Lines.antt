@@ -8,15 +8,23 @@ use lib.Dec.{eqb}
 use lib.ListN.{length, getD}
 use borrow.Author.Tests.{eqb-true, eqb-false, ne-eqb}
 use Rattle.theory.specs.Gather.{All}
-use Rattle.theory.proofs.Each.{T-true, T-false}
-use Rattle.texts.specs.Text.{LF, CR, comma, beginsWith, inFront, linesOf, fieldsOf}
-use Rattle.texts.specs.Rest.{firstPart, otherParts, restOfLine, linesBehind, restOfField, fieldsBehind}
+use Rattle.theory.proofs.Each.{T-true, T-false, all-map}
+use Rattle.texts.specs.Text.{LF, CR, quote, comma, beginsWith, inFront, linesOf, fieldsOf}
+use Rattle.texts.specs.Rest.{firstPart, otherParts, restOfLine, linesBehind, restOfField, fieldsBehind, Plain}
 
 -- a byte that is a field's own: no line end and no comma
 pub record Ordinary (byte : ℕ) : Type 0 where
   pub no-LF : byte ≡ LF → ⊥
   pub no-CR : byte ≡ CR → ⊥
   pub no-comma : byte ≡ comma → ⊥
+
+-- plain bytes are
+pub plain-ordinary : (bytes : List ℕ) → All Plain bytes → All Ordinary bytes
+plain-ordinary bytes = all-map bytes (λ byte plain. record { no-LF = λ same. omega arith; no-CR = λ same. omega arith; no-comma = λ same. omega arith })
+
+-- so is a quote
+pub quote-ordinary : Ordinary quote
+quote-ordinary = record { no-LF = λ same. omega arith; no-CR = λ same. omega arith; no-comma = λ same. omega arith }
 
 -- a byte in front of the first part leaves the others
 pub first-in-front : (byte : ℕ) (parts : List (List ℕ)) → firstPart (inFront byte parts) ≡ byte ∷ firstPart parts

@@ -19,23 +19,22 @@ use Rattle.texts.specs.Table.{onCores, judged, tableFrom, readText}
 use Rattle.texts.specs.Columns.{allNames, certifiedLine, certifiedLines, certifiedText, firstColumns}
 use Rattle.texts.specs.Forms.{joined, plain, NumberField, digits, header, numbers, CR-LF, line-end, RowLines, no-rows, with-row, Written, written}
 use Rattle.texts.proofs.Lines.{Ordinary}
-use Rattle.texts.proofs.Digits.{decimal-digits}
-use Rattle.texts.proofs.Fields.{digits-ordinary}
+use Rattle.texts.proofs.Fields.{number-field-ordinary}
 use Rattle.texts.proofs.Forms.{name-ordinary, written-read}
 use Rattle.texts.proofs.Joined.{OrdinaryFields, line-of, line-of-read, first-columns-line}
 
+-- a number's digits are a field that holds it
+decimal-field : (n : ℕ) → NumberField n (decimal n)
+decimal-field n = digits 0 plain
+
 decimal-ordinary : (n : ℕ) → All Ordinary (decimal n)
-decimal-ordinary n = digits-ordinary (decimal n) (decimal-digits n)
+decimal-ordinary n = number-field-ordinary (decimal-field n)
 
 names-ordinary : OrdinaryFields allNames
 unfolding allNames names ascii every
 names-ordinary =
     let own = name-ordinary in
     (own (ascii "wcet") tt, (own (ascii "deadline") tt, (own (ascii "period") tt, (own (ascii "core") tt, (own (ascii "response") tt, (own (ascii "allowance") tt, tt))))))
-
--- a number's digits are a field that holds it
-decimal-field : (n : ℕ) → NumberField n (decimal n)
-decimal-field n = digits 0 plain
 
 -- the first columns of the lines that are written are of the grammar
 first-columns-lines : (rows : List Row) (all : List Figures) → length all ≡ length rows → RowLines rows (firstColumns (certifiedLines rows all))

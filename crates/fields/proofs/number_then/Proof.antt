@@ -1,7 +1,8 @@
 -- `number_then` meets its contract.
 use mathlib.Core.Path.{subst}
 use borrow.Author.Needs.{needs}
-use Rattle.fields.specs.Found.{IsNumber, IsField, IsBetween}
+use Rattle.texts.specs.Rest.{IsNumber}
+use Rattle.fields.specs.Found.{IsField, IsBetween}
 use Rattle.fields.proofs.Followed.{followed, not-followed}
 use Rattle.fields.proofs.number_then.Statement.{statement}
 use Rattle.fields.proofs.number_then.Tie as tie

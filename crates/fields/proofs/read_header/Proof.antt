@@ -4,9 +4,9 @@ use mathlib.Core.Path.{subst}
 use borrow.Author.Needs.{needs}
 use Rattle.listing.specs.Listing.{ascii}
 use Rattle.fields.specs.declared.Behind.the-variants.{Comma}
-use Rattle.fields.specs.Found.{IsNameThen}
+use Rattle.fields.specs.Found.{Named, IsNameThen}
 use Rattle.fields.proofs.Followed.{not-first, not-second}
-use Rattle.fields.proofs.LineFields.{Named, not-the-header, header-found}
+use Rattle.fields.proofs.LineFields.{not-the-header, header-found}
 use Rattle.fields.proofs.read_header.Statement.{statement}
 use Rattle.fields.proofs.read_header.Tie as tie
 

@@ -2,7 +2,8 @@
 use mathlib.Core.Path.{subst}
 use borrow.Author.Needs.{needs}
 use Rattle.fields.specs.declared.Behind.the-variants.{Comma, LineEnd}
-use Rattle.fields.specs.Found.{IsNumber, IsFieldThen}
+use Rattle.texts.specs.Rest.{IsNumber}
+use Rattle.fields.specs.Found.{IsFieldThen}
 use Rattle.fields.proofs.Followed.{not-first, not-second, not-third}
 use Rattle.fields.proofs.LineFields.{not-a-row, row-found}
 use Rattle.fields.proofs.read_line.Statement.{statement}
