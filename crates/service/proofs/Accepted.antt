@@ -14,7 +14,7 @@ use Rattle.records.specs.Report.{reportBytes}
 use Rattle.records.proofs.Refused.{refused-from-1-to-5}
 use Rattle.texts.specs.Table.{readText}
 use Rattle.texts.specs.Columns.{certifiedText}
-use Rattle.texts.proofs.Refused.{text-refused}
+use Rattle.texts.proofs.Reading.{text-refused}
 use Rattle.service.specs.Table.{TableAnswered}
 use Rattle.service.specs.Text.{TextAnswered}
 

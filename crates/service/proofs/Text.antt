@@ -16,8 +16,7 @@ use Rattle.records.specs.Report.{tableBytes}
 use Rattle.records.proofs.ReadingBack.{table-reads-back}
 use Rattle.texts.specs.Table.{readText}
 use Rattle.texts.specs.Columns.{certifiedText}
-use Rattle.texts.proofs.Reading.{read-text-within}
-use Rattle.texts.proofs.Refused.{text-refused}
+use Rattle.texts.proofs.Reading.{read-text-within, text-refused}
 use Rattle.service.specs.Text.{TextAnswered, TextTabled}
 use Rattle.service.proofs.Accepted.{not-accepted}
 use Rattle.service.proofs.Determined.{one-table, one-refusal, not-both, one-stop, one-list, not-certified}

@@ -1,21 +1,21 @@
 -- THE ROUND TRIP: the first three columns of the text that is written are the table that it was written for; the text itself is not read.
 use mathlib.Core.Path.{_≡_, refl, sym, ap, subst, _∙_}
-use Prim.Native.Nat.{ℕ, suc, _+_, _≤_, suc-le-suc}
+use Prim.Native.Nat.{ℕ, _≤_}
 use native.Mathlib.Omega.{arith}
 use mathlib.Core.Bool.{false}
 use mathlib.Core.List.{List, [], _∷_, flatMap}
 use lib.ListN.{length}
-use borrow.Author.Tests.{le-leb, le-ltb}
+use borrow.Author.Tests.{le-leb}
 use Rattle.theory.specs.Row.{Row, AllWithin}
 use Rattle.theory.specs.Gather.{All, every}
-use Rattle.theory.proofs.Limits.{keeping-limits-passes}
 use Rattle.placement.specs.Core.{Table}
 use Rattle.placement.specs.Figures.{Figures}
-use Rattle.records.specs.Reading.{Reading, table, TableWithin}
+use Rattle.records.specs.Reading.{table, TableWithin}
 use Rattle.listing.specs.Listing.{ascii, decimal}
 use Rattle.texts.specs.Text.{inFront, linesOf, fieldsOf, held, names, sameBytes, hold, of-rows, not-of-the-form, headed, textOf}
+use Rattle.texts.proofs.Judged.{within-judged}
 use Rattle.texts.proofs.Reading.{read-text-within, read-text-cores}
-use Rattle.texts.specs.Table.{onCores, judged, tableFrom, readText}
+use Rattle.texts.specs.Table.{onCores, tableFrom, readText}
 use Rattle.texts.specs.Columns.{allNames, certifiedLine, certifiedLines, certifiedText, firstColumns}
 use Rattle.texts.specs.Forms.{joined, plain, NumberField, digits, header, numbers, CR-LF, line-end, RowLines, no-rows, with-row, Written, written}
 use Rattle.texts.proofs.Lines.{Ordinary}
@@ -71,14 +71,6 @@ six-names-no-header = refl
 pub six-columns-not-read : (rows : List Row) (all : List Figures) → textOf (certifiedText rows all) ≡ not-of-the-form 1
 unfolding certifiedText textOf headed
 six-columns-not-read rows all = rw (line-of-read allNames (certifiedLines rows all) names-ordinary, six-names-no-header, headed)
-
--- rows within the limits, none of them a 25th, are judged sound
-pub within-judged : (number : ℕ) (rows : List Row) (sound : Reading) → number + length rows ≤ 25 → AllWithin rows → judged number rows sound ≡ sound
-unfolding judged
-within-judged number [] sound few within = refl
-within-judged number (row ∷ rows) sound few within =
-    rw (le-ltb 24 number (omega arith), keeping-limits-passes row (within 0 (omega arith)), judged)
-    (within-judged (suc number) rows sound (omega arith) (λ k inside. within (suc k) (suc-le-suc inside)))
 
 -- the rows of a table that keeps the rules are that table on its cores
 pub within-table : (t : Table) → TableWithin t → tableFrom (t .cores) (t .rows) ≡ table t
