@@ -2,11 +2,10 @@
 use mathlib.Core.Path.{_≡_, refl, sym, ap, subst, _∙_}
 use Prim.Native.Nat.{ℕ, _+_, _≤_}
 use native.Mathlib.Omega.{arith}
-use mathlib.Core.Bool.{Bool, true, false}
+use mathlib.Core.Bool.{Bool, true, false, true≢false}
 use mathlib.Core.List.{List, [], _∷_, _++_, append-nil}
 use lib.ListN.{length, drop}
 use Rattle.theory.specs.Gather.{All}
-use Rattle.theory.proofs.Each.{T-true, T-false}
 use Rattle.texts.specs.Text.{quote, beginsWith, held}
 use Rattle.texts.specs.Rest.{linesBehind, restOfField, fieldsBehind, Plain}
 use Rattle.texts.proofs.Lines.{Ordinary, plain-ordinary, quote-ordinary, InField, ordinary-in-field, first-of-field}
@@ -118,7 +117,7 @@ module _ (Right : List ℕ → Type 0) (no-quote : (front behind : List ℕ) →
   not-closed place right =
       let closes = right-content right .0 ∙ ap openingBy (place .0) in
       let first = first-of-field (drop end text) quote [] closes in
-      T-false (beginsWith quote (drop end text)) (place .1) (T-true (beginsWith quote (drop end text)) (ap (beginsWith quote) (first .1)))
+      true≢false (sym (ap (beginsWith quote) (first .1)) ∙ place .1)
 
   -- right content up to a place
   module _ (next : ℕ) (place : IsFieldEnd text at end (At next)) where

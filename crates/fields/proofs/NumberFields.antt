@@ -2,16 +2,16 @@
 use mathlib.Core.Path.{_≡_, sym, ap, subst, _∙_}
 use Prim.Native.Nat.{ℕ, _+_, _≤_, _<_}
 use native.Mathlib.Omega.{arith}
+use mathlib.Core.Bool.{true≢false}
 use mathlib.Core.List.{List, [], _∷_, _++_}
 use mathlib.Core.Option.{IsSome, Option·some-injective}
-use lib.Dec.{eqb}
 use lib.ListN.{length, getD, take, drop, length-append, take-append-drop}
 use lib.Seq.{length-take-le, getD-at, take-all}
 use borrow.Author.Tests.{eq-eqb}
 use Rattle.theory.specs.Gather.{All}
-use Rattle.theory.proofs.Each.{T-true, T-false, all-append-split}
+use Rattle.theory.proofs.Each.{all-append-split}
 use Rattle.texts.specs.Rest.{Plain, IsNumber}
-use Rattle.texts.specs.Text.{quote, isDigit, beginsWith, numberIn}
+use Rattle.texts.specs.Text.{quote, beginsWith, numberIn}
 use Rattle.texts.proofs.Numbers.{digit-passes, number-of-digits, some-number, number-digits, no-number, quote-in-no-number}
 use Rattle.texts.proofs.Fields.{digits-plain}
 use Rattle.fields.specs.declared.Place.{Place}
@@ -32,7 +32,7 @@ module _ (text : List ℕ) (at content : ℕ) (begins : content ≡ at + length 
   splits = ap (λ (k : ℕ). drop k text) (sym begins) ∙ found .0 .splits
 
   not-longer : (byte : ℕ) (others more : List ℕ) → drop (digits .end) text ≡ byte ∷ others → IsNumber (bytes ++ (byte ∷ more)) → ⊥
-  not-longer byte others more next = no-number bytes byte more (λ digit. T-false (isDigit byte) (found .1 byte others next) (T-true (isDigit byte) (digit-passes byte digit)))
+  not-longer byte others more next = no-number bytes byte more (λ digit. true≢false (sym (digit-passes byte digit) ∙ found .1 byte others next))
 
   pub no-digits : digits .end ≡ content → Wrong IsNumber text at
   no-digits none = wrong-content IsNumber quote-in-no-number text at (digits .end) bytes plain splits not-longer (λ number. omega (arith, found .0 .ends, number-digits bytes number .1))
@@ -70,7 +70,7 @@ module _ (text : List ℕ) (at content : ℕ) (begins : content ≡ at + length 
   name-not-longer byte others more next same =
       let left : many < length name = omega (arith, as-many, ap length same, length-append (take many name) (byte ∷ more)) in
       let is-next : byte ≡ getD name many 0 = sym (getD-at (take many name) byte more 0 many as-many) ∙ ap (λ bytes. getD bytes many 0) same in
-      T-false (eqb byte (getD name many 0)) (ap (beginsWith (getD name many 0)) (sym next) ∙ found .1 left) (T-true (eqb byte (getD name many 0)) (eq-eqb byte (getD name many 0) is-next))
+      true≢false (sym (eq-eqb byte (getD name many 0) is-next) ∙ ap (beginsWith (getD name many 0)) (sym next) ∙ found .1 left)
 
   pub no-name : many < length name → Wrong (Named name) text at
   no-name less = wrong-content (Named name) no-quote text at (content + many) (take many name) found-plain name-splits name-not-longer (λ same. omega (arith, as-many, ap length same))

@@ -1,10 +1,9 @@
 -- A text is what its fields hold: where two texts have as many lines, these as many fields, and each two hold the same bytes or the same number, they are the same.
 use mathlib.Core.Path.{_≡_, refl, sym, ap, _∙_}
 use Prim.Native.Nat.{ℕ, suc}
-use native.Mathlib.Omega.{arith}
 use mathlib.Core.Bool.{Bool, true, false}
 use mathlib.Core.List.{List, [], _∷_}
-use mathlib.Core.Option.{Option, none, some}
+use mathlib.Core.Option.{Option, none, some, Option·none-ne-some}
 use Rattle.theory.specs.Row.{Row}
 use Rattle.listing.specs.Listing.{ascii}
 use Rattle.texts.specs.Text.{Text, fieldsOf, held, numberFrom, numberIn, rowIn, names, sameBytes, hold, withRow, rowsFrom, headed, not-of-the-form}
@@ -58,7 +57,7 @@ number-no-name : (content name : List ℕ) (n : ℕ) → numberIn content ≡ so
 number-no-name content name n is-n no-number = go (sameBytes content name) refl
   where
     go : (same : Bool) → sameBytes content name ≡ same → same ≡ false
-    go true same = absurd (let equal = bytes-same content name same in let z : _≡_ {A = ℕ} 0 1 = cc in omega arith)
+    go true same = absurd (Option·none-ne-some n (sym no-number ∙ ap numberIn (sym (bytes-same content name same)) ∙ is-n))
     go false same = refl
 
 -- so they hold the same of such names

@@ -1,8 +1,7 @@
 -- A text is its first line, what ends it, and the text of the others; a line is its fields with commas between them.
 use mathlib.Core.Path.{_≡_, refl, sym, ap, subst, _∙_}
 use Prim.Native.Nat.{ℕ}
-use native.Mathlib.Omega.{arith}
-use mathlib.Core.Bool.{Bool, true, false, _&&_}
+use mathlib.Core.Bool.{Bool, true, false, _&&_, true≢false}
 use mathlib.Core.List.{List, [], _∷_, _++_}
 use lib.Dec.{eqb}
 use borrow.Author.Tests.{eqb-true}
@@ -32,7 +31,7 @@ LF-parted byte text is-LF =
 -- a CR in front of one
 CR-LF-parted : (byte : ℕ) (text : List ℕ) → byte ≡ CR → beginsWith LF text ≡ true → Parted (byte ∷ text) (linesOf text)
 unfolding linesOf
-CR-LF-parted byte [] is-CR begins = absurd (let z : _≡_ {A = ℕ} 0 1 = cc in omega arith)
+CR-LF-parted byte [] is-CR begins = absurd (true≢false (sym begins))
 CR-LF-parted byte (first ∷ text) is-CR begins =
     rw (is-CR, eqb-true first LF begins) (record { rest = CR ∷ (LF ∷ text); others = text; is-text = refl; behind = line-end text CR-LF; lines-of-others = refl })
 
