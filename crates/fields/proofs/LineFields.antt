@@ -13,7 +13,7 @@ use Rattle.texts.proofs.ThreeFields.{three-numbers-row, no-row, Pairwise, no-pa
 use Rattle.fields.specs.declared.Place.{Place}
 use Rattle.fields.specs.declared.Place.the-variants.{At, Nowhere}
 use Rattle.fields.specs.declared.Behind.the-variants.{Comma, LineEnd}
-use Rattle.fields.specs.Found.{Held, Named, Followed, RowAt, IsNameThen, IsHeader}
+use Rattle.fields.specs.Found.{NumberAt, Named, Followed, RowAt, IsNameThen, IsHeader}
 use Rattle.fields.proofs.Followed.{NotThree, not-third, all-three, lines-left}
 
 -- the number that is there
@@ -28,8 +28,8 @@ module _ (text : List ℕ) (at : ℕ) where
 
   -- three numbers with commas between and a line's end behind are one
   pub row-found :
-      {second third next c d t : ℕ} (is-c : Followed IsNumber Comma text at second × Held text at c) (is-d : Followed IsNumber Comma text second third × Held text second d)
-      → Followed IsNumber LineEnd text third next × Held text third t
+      {second third next c d t : ℕ} (is-c : Followed IsNumber Comma text at second × NumberAt text at c) (is-d : Followed IsNumber Comma text second third × NumberAt text second d)
+      → Followed IsNumber LineEnd text third next × NumberAt text third t
       → RowAt text at c d t next
   row-found {second} {third} is-c is-d is-t =
       let c = number-there (numberIn (held (restOfField (drop at text)))) (is-c .0 .right) in

@@ -17,7 +17,7 @@ use Rattle.texts.proofs.Fields.{digits-plain}
 use Rattle.fields.specs.declared.Place.{Place}
 use Rattle.fields.specs.declared.Place.the-variants.{At, Nowhere}
 use Rattle.fields.specs.declared.Digits.{Digits}
-use Rattle.fields.specs.Found.{capped, opening, IsDigits, Matches, IsFieldEnd, EndsAt, Wrong, Held, Named, IsName}
+use Rattle.fields.specs.Found.{capped, opening, IsDigits, Matches, IsFieldEnd, EndsAt, Wrong, NumberAt, Named, IsName}
 use Rattle.fields.proofs.Contents.{wrong-content, not-closed, held-there, right-field}
 
 -- a field of the digits that were found behind what opens it
@@ -40,7 +40,7 @@ module _ (text : List ℕ) (at content : ℕ) (begins : content ≡ at + length 
   pub digits-not-closed : IsFieldEnd text at (digits .end) Nowhere → Wrong IsNumber text at
   digits-not-closed = not-closed IsNumber quote-in-no-number text at (digits .end) bytes plain splits not-longer
 
-  pub digits-held : (next : ℕ) → (digits .end ≡ content → ⊥) → IsFieldEnd text at (digits .end) (At next) → EndsAt IsNumber text at next × Held text at (digits .number)
+  pub digits-held : (next : ℕ) → (digits .end ≡ content → ⊥) → IsFieldEnd text at (digits .end) (At next) → EndsAt IsNumber text at next × NumberAt text at (digits .number)
   digits-held next some-digit place =
       let some-bytes : 1 ≤ length bytes = omega (arith, found .0 .ends, some-digit) in
       let is-value = some-number bytes some-bytes ∙ found .0 .is-number in

@@ -25,7 +25,7 @@ heldAt text at = held (restOfField (drop at text))
 abbrev pub fieldsAt : List ℕ → ℕ → List (List ℕ)
 fieldsAt text at = fieldsOf (restOfLine (drop at text))
 
--- a number as the code holds it: above a million it is a million and one, which breaks the same limits
+-- a number as the code holds it: above a million it is a million and one; a row so held breaks a limit exactly where the row itself does
 abbrev pub capped : ℕ → ℕ
 capped n = min n 1_000_001
 
@@ -77,13 +77,13 @@ pub record EndsAt (Right : List ℕ → Type 0) (text : List ℕ) (at next : ℕ
 abbrev pub Wrong : (List ℕ → Type 0) → List ℕ → ℕ → Type 0
 Wrong Right text at = Right (heldAt text at) → ⊥
 
--- a number as the code holds it is what the field at a place holds
-abbrev pub Held : List ℕ → ℕ → ℕ → Type 0
-Held text at n = (m : ℕ) → numberIn (heldAt text at) ≡ some m → n ≡ capped m
+-- where the field at a place holds a number, this is it, as the code holds it
+abbrev pub NumberAt : List ℕ → ℕ → ℕ → Type 0
+NumberAt text at n = (m : ℕ) → numberIn (heldAt text at) ≡ some m → n ≡ capped m
 
 -- the field at a place: a number, or not
 abbrev pub IsField : List ℕ → ℕ → Field → Type 0
-IsField text at (Number n next) = EndsAt IsNumber text at next × Held text at n
+IsField text at (Number n next) = EndsAt IsNumber text at next × NumberAt text at n
 IsField text at Broken = Wrong IsNumber text at
 
 -- bytes that are a name
@@ -134,7 +134,7 @@ abbrev pub NotFollowed : (List ℕ → Type 0) → Behind → List ℕ → ℕ �
 NotFollowed Right behind text at = Right (heldAt text at) → Follow behind (fieldsBehind (drop at text)) → ⊥
 
 abbrev pub IsFieldThen : Behind → List ℕ → ℕ → Field → Type 0
-IsFieldThen behind text at (Number n next) = Followed IsNumber behind text at next × Held text at n
+IsFieldThen behind text at (Number n next) = Followed IsNumber behind text at next × NumberAt text at n
 IsFieldThen behind text at Broken = NotFollowed IsNumber behind text at
 
 abbrev pub IsNameThen : Behind → List ℕ → List ℕ → ℕ → Place → Type 0
