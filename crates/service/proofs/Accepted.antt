@@ -18,9 +18,13 @@ use Rattle.texts.proofs.Reading.{text-refused}
 use Rattle.service.specs.Table.{TableAnswered}
 use Rattle.service.specs.Text.{TextAnswered}
 
--- a refusal has a number
+-- two that are returned have one number
+pub numbers-differ : {X : Type 0} {number other row other-row : ℕ} → returned number row ≡ returned other other-row → (number ≡ other → ⊥) → X
+numbers-differ same differ = absurd (differ (ap (λ (r : Returned). r .number) same))
+
+-- so a refusal is not accepted
 pub not-accepted : {X : Type 0} {number row : ℕ} → 1 ≤ number → returned number row ≡ returned 0 0 → X
-not-accepted some-number accepted = absurd (omega (arith, ap (λ (r : Returned). r .number) accepted))
+not-accepted some-number accepted = numbers-differ accepted (λ zero-number. omega arith)
 
 -- the table that bytes are read as and its figures, in the report that is left
 pub record ReportOf (rule : Rule) (bytes report after : List ℕ) : Type 0 where
