@@ -1,4 +1,5 @@
--- What stands from a place in a text on, for one that reads it from the front: the rest of a field, of its line, and of the text.
+-- For the contracts of the code, which reads a text from the front: what stands from a place on, the rest of a field, of its line, and of the text. The promises do
+-- not speak of it.
 use Prim.Native.Nat.{ℕ, _<_}
 use mathlib.Core.List.{List, [], _∷_}
 use mathlib.Core.Option.{IsSome}
