@@ -1,5 +1,5 @@
 -- What the writes of a certified table's text come to, one behind another.
-use mathlib.Core.Path.{_≡_, ap, _∙_}
+use mathlib.Core.Path.{_≡_}
 use Prim.Native.Nat.{ℕ, _+_, _≤_, _<_}
 use mathlib.Core.List.{List, [], _∷_, _++_, append-assoc, append-nil}
 use lib.ListN.{length, getD}
@@ -7,40 +7,31 @@ use Rattle.theory.specs.Row.{Row}
 use Rattle.placement.specs.Figures.{Figures}
 use Rattle.listing.specs.Listing.{decimal}
 use Rattle.texts.specs.Text.{LF, CR, comma}
+use Rattle.texts.specs.Forms.{joined}
 use Rattle.texts.specs.Columns.{lineOf, allNames, certifiedLine, certifiedLines, certifiedText}
 use Rattle.lines.proofs.Written.{one-line-more}
 use Rattle.columns.proofs.CertifiedLines.{certifiedLinesFrom, certified-lines-from-row, no-certified-lines-left}
 
--- three fields, commas between them and one byte behind the last, before others
-abbrev pub threeFields : ℕ → ℕ → ℕ → ℕ → List ℕ → List ℕ
-threeFields first second third behind others = decimal first ++ (comma ∷ (decimal second ++ (comma ∷ (decimal third ++ (behind ∷ others)))))
-
--- the others may come behind them later
-fields-before : (first second third behind : ℕ) (others more : List ℕ) → threeFields first second third behind others ++ more ≡ threeFields first second third behind (others ++ more)
-fields-before first second third behind others more = simp append-assoc
+-- three numbers, commas between them and one byte behind the last
+abbrev pub threeNumbers : ℕ → ℕ → ℕ → ℕ → List ℕ
+threeNumbers first second third behind = decimal first ++ (comma ∷ (decimal second ++ (comma ∷ (decimal third ++ (behind ∷ [])))))
 
 module _ {one two three : List ℕ} (front : List ℕ) where
   pub fields-written : (first second third behind : ℕ)
       → one ≡ front ++ (decimal first ++ (comma ∷ []))
       → two ≡ one ++ (decimal second ++ (comma ∷ []))
       → three ≡ two ++ (decimal third ++ (behind ∷ []))
-      → three ≡ front ++ threeFields first second third behind []
+      → three ≡ front ++ threeNumbers first second third behind
   fields-written first second third behind w x y = simp (y, x, w, append-assoc)
 
   -- the line of a row and its figures
   pub line-written : (row : Row) (figures : Figures)
-      → one ≡ front ++ threeFields (row .C) (row .D) (row .T) comma []
-      → two ≡ one ++ threeFields (figures .core) (figures .response) (figures .allowance) CR []
+      → one ≡ front ++ threeNumbers (row .C) (row .D) (row .T) comma
+      → two ≡ one ++ threeNumbers (figures .core) (figures .response) (figures .allowance) CR
       → three ≡ two ++ (LF ∷ [])
       → three ≡ front ++ certifiedLine row figures
-  unfolding certifiedLine lineOf
-  line-written row figures w x y =
-      let numbers = threeFields (figures .core) (figures .response) (figures .allowance) CR in
-      let columns = threeFields (row .C) (row .D) (row .T) comma in
-      rw (y, x, w, append-assoc (front ++ columns []) (numbers []) (LF ∷ []), append-assoc front (columns []) (numbers [] ++ (LF ∷ [])))
-      (ap (λ (line : List ℕ). front ++ line)
-      (ap (λ (line : List ℕ). columns [] ++ line) (fields-before (figures .core) (figures .response) (figures .allowance) CR [] (LF ∷ []))
-      ∙ fields-before (row .C) (row .D) (row .T) comma [] (numbers (LF ∷ []))))
+  unfolding certifiedLine joined lineOf
+  line-written row figures w x y = simp (y, x, w, append-assoc)
 
 -- the lines of the rows, where those before row i stand written and those from row i on are left
 module _

@@ -2,13 +2,12 @@
 use mathlib.Core.Path.{_≡_, refl, sym, ap, _∙_}
 use Prim.Native.Nat.{ℕ, suc, _+_, _≤_, _<_}
 use native.Mathlib.Omega.{arith}
-use mathlib.Core.Bool.{Bool, true, false}
+use mathlib.Core.Bool.{Bool, true, false, true≢false}
 use mathlib.Core.List.{List, _∷_}
 use lib.Dec.{ltb, eqb}
 use lib.ListN.{length, getD, drop, drop-of-length-le}
 use lib.Seq.{drop-cons}
 use borrow.Author.Tests.{ltb-true, ltb-false, eqb-true}
-use Rattle.theory.proofs.Each.{T-true, T-false}
 use Rattle.texts.specs.Text.{beginsWith}
 
 -- the text from a place on, one byte and the text behind it
@@ -30,4 +29,4 @@ module _ (text : List ℕ) (at byte : ℕ) where
       go true inside =
           let within = ltb-true at (length text) inside in
           (within, one-byte text at within ∙ ap (λ x. x ∷ drop (at + 1) text) (eqb-true _ byte (begins-inside within ∙ begins)))
-      go false past = absurd (T-false (beginsWith byte (drop at text)) (sym (begins-past (ltb-false at (length text) past))) (T-true (beginsWith byte (drop at text)) begins))
+      go false past = absurd (true≢false (sym begins ∙ sym (begins-past (ltb-false at (length text) past))))

@@ -2,18 +2,16 @@
 use mathlib.Core.Path.{_≡_, refl, sym, ap, subst, _∙_}
 use Prim.Native.Nat.{ℕ, _+_, _≤_}
 use native.Mathlib.Omega.{arith}
-use mathlib.Core.Bool.{Bool, true, false}
+use mathlib.Core.Bool.{Bool, true, false, true≢false}
 use mathlib.Core.List.{List, [], _∷_, _++_, append-nil}
 use lib.ListN.{length, drop}
-use borrow.Author.Tests.{ne-eqb}
 use Rattle.theory.specs.Gather.{All}
-use Rattle.theory.proofs.Each.{T-true, T-false, all-map}
 use Rattle.texts.specs.Text.{quote, beginsWith, held}
-use Rattle.texts.specs.Rest.{linesBehind, restOfField, fieldsBehind}
-use Rattle.texts.proofs.Lines.{Ordinary, InField, ordinary-in-field, first-of-field}
-use Rattle.texts.proofs.Held.{held-plain, held-quoted, NoQuote, plain-right, quoted-right}
+use Rattle.texts.specs.Rest.{linesBehind, restOfField, fieldsBehind, Plain}
+use Rattle.texts.proofs.Lines.{Ordinary, plain-ordinary, quote-ordinary, InField, ordinary-in-field, first-of-field}
+use Rattle.texts.proofs.Held.{held-plain, held-quoted, plain-begins, plain-right, quoted-right}
 use Rattle.fields.specs.declared.Place.the-variants.{At, Nowhere}
-use Rattle.fields.specs.Found.{opening, IsFieldEnd, EndsAt, Wrong, NameByte}
+use Rattle.fields.specs.Found.{opening, IsFieldEnd, EndsAt, Wrong}
 use Rattle.fields.proofs.Begins.{stands-there}
 
 -- by whether a quote opens a field
@@ -54,14 +52,9 @@ quoted-ends text at end begins closes =
     let quotes = opens (drop at text) begins in
     (there .1 ∙ ap (λ (quotes : List ℕ). quotes ++ drop (end + 1) text) quotes, omega (arith, ap length quotes), omega (arith, there .0))
 
-names-ordinary : (bytes : List ℕ) → All NameByte bytes → All Ordinary bytes
-names-ordinary bytes = all-map bytes (λ byte plain. record { no-LF = plain .no-LF; no-CR = plain .no-CR; no-comma = plain .no-comma })
-
-names-no-quote : (bytes : List ℕ) → All NameByte bytes → NoQuote bytes
-names-no-quote bytes = all-map bytes (λ byte plain. plain .no-quote)
-
+-- what opens a field is its own
 opening-ordinary : (begins : Bool) → All Ordinary (openingBy begins)
-opening-ordinary true = (record { no-LF = λ same. omega arith; no-CR = λ same. omega arith; no-comma = λ same. omega arith }, tt)
+opening-ordinary true = (quote-ordinary, tt)
 opening-ordinary false = tt
 
 -- a field that no quote opens does not begin with one
@@ -73,10 +66,9 @@ no-quote-in-front text none = go (restOfField text) refl
     go (byte ∷ others) same = ap (beginsWith quote) (sym (first-of-field text byte others same .1)) ∙ none
 
 -- content between its quotes, or plain, is what a field holds
-held-content : (begins : Bool) (bytes : List ℕ) → NoQuote bytes → held (openingBy begins ++ (bytes ++ openingBy begins)) ≡ bytes
+held-content : (begins : Bool) (bytes : List ℕ) → All Plain bytes → held (openingBy begins ++ (bytes ++ openingBy begins)) ≡ bytes
 held-content true bytes plain = held-quoted bytes
-held-content false [] plain = held-plain [] refl
-held-content false (byte ∷ bytes) plain = held-plain ((byte ∷ bytes) ++ []) (ne-eqb byte quote (plain .0)) ∙ append-nil (byte ∷ bytes)
+held-content false bytes plain = ap held (append-nil bytes) ∙ held-plain bytes (plain-begins bytes plain)
 
 -- what follows the quotes
 behind-opening : (begins : Bool) (rest : List ℕ) → openingBy begins ++ rest ≡ openingBy begins → rest ≡ []
@@ -84,7 +76,7 @@ behind-opening true rest same = ap (drop 1) same
 behind-opening false rest same = same
 
 module _ (Right : List ℕ → Type 0) (no-quote : (front behind : List ℕ) → Right (front ++ (quote ∷ behind)) → ⊥)
-    (text : List ℕ) (at end : ℕ) (bytes : List ℕ) (plain : All NameByte bytes) (splits : drop (at + length (opening (drop at text))) text ≡ bytes ++ drop end text)
+    (text : List ℕ) (at end : ℕ) (bytes : List ℕ) (plain : All Plain bytes) (splits : drop (at + length (opening (drop at text))) text ≡ bytes ++ drop end text)
     (not-longer : (byte : ℕ) (others more : List ℕ) → drop end text ≡ byte ∷ others → Right (bytes ++ (byte ∷ more)) → ⊥) where
   abbrev quotes : List ℕ
   quotes = opening (drop at text)
@@ -94,7 +86,7 @@ module _ (Right : List ℕ → Type 0) (no-quote : (front behind : List ℕ) →
   content-in-field = ordinary-in-field quotes (bytes ++ drop end text) (opening-ordinary (beginsWith quote (drop at text)))
 
   bytes-in-field : InField bytes (drop end text)
-  bytes-in-field = ordinary-in-field bytes (drop end text) (names-ordinary bytes plain)
+  bytes-in-field = ordinary-in-field bytes (drop end text) (plain-ordinary bytes plain)
 
   whole : drop at text ≡ quotes ++ (bytes ++ drop end text)
   whole = opened text at ∙ ap (λ behind. quotes ++ behind) splits
@@ -112,9 +104,9 @@ module _ (Right : List ℕ → Type 0) (no-quote : (front behind : List ℕ) →
       go :
           (begins : Bool) → beginsWith quote (drop at text) ≡ begins → Right (held (openingBy begins ++ (bytes ++ restOfField (drop end text))))
           → (restOfField (drop end text) ≡ openingBy begins) × Right bytes
-      go true begins = quoted-right Right no-quote bytes (names-no-quote bytes plain) (restOfField (drop end text)) stops
+      go true begins = quoted-right Right no-quote bytes plain (restOfField (drop end text)) stops
       go false begins =
-          plain-right Right no-quote bytes (names-no-quote bytes plain) (restOfField (drop end text)) stops
+          plain-right Right no-quote bytes plain (restOfField (drop end text)) stops
           (ap (beginsWith quote) (sym (field-is ∙ ap (λ (opens : Bool). openingBy opens ++ (bytes ++ restOfField (drop end text))) begins)) ∙ no-quote-in-front (drop at text) begins)
 
   -- wrong content, or no closing quote: a wrong field
@@ -125,7 +117,7 @@ module _ (Right : List ℕ → Type 0) (no-quote : (front behind : List ℕ) →
   not-closed place right =
       let closes = right-content right .0 ∙ ap openingBy (place .0) in
       let first = first-of-field (drop end text) quote [] closes in
-      T-false (beginsWith quote (drop end text)) (place .1) (T-true (beginsWith quote (drop end text)) (ap (beginsWith quote) (first .1)))
+      true≢false (sym (ap (beginsWith quote) (first .1)) ∙ place .1)
 
   -- right content up to a place
   module _ (next : ℕ) (place : IsFieldEnd text at end (At next)) where
@@ -136,7 +128,7 @@ module _ (Right : List ℕ → Type 0) (no-quote : (front behind : List ℕ) →
     held-there ended =
         ap held
         (field-is ∙ ap (λ rest. quotes ++ (bytes ++ rest)) (ap restOfField (place .0) ∙ closing-in-field .in-field ∙ ap (λ rest. quotes ++ rest) ended ∙ append-nil quotes))
-        ∙ held-content (beginsWith quote (drop at text)) bytes (names-no-quote bytes plain)
+        ∙ held-content (beginsWith quote (drop at text)) bytes plain
 
     pub right-field : Right bytes → 1 ≤ length bytes → end ≡ at + length quotes + length bytes → EndsAt Right text at next
     right-field right some-bytes ends =

@@ -1,9 +1,9 @@
 -- A field and what stands behind it; three of them are a line.
 use mathlib.Core.Path.{_≡_, sym, ap, subst, _∙_}
-use Prim.Native.Nat.{ℕ, suc}
+use Prim.Native.Nat.{ℕ}
 use native.Mathlib.Omega.{arith}
-use mathlib.Core.List.{List, [], _∷_}
-use lib.ListN.{length, drop}
+use mathlib.Core.List.{List, [], _∷_, cons≢nil}
+use lib.ListN.{drop}
 use Rattle.texts.specs.Text.{linesOf, fieldsOf, held}
 use Rattle.texts.specs.Rest.{firstPart, otherParts, restOfLine, linesBehind, restOfField, fieldsBehind}
 use Rattle.texts.proofs.Lines.{some-field}
@@ -11,7 +11,7 @@ use Rattle.fields.specs.declared.Place.{Place}
 use Rattle.fields.specs.declared.Place.the-variants.{At, Nowhere}
 use Rattle.fields.specs.declared.Behind.{Behind}
 use Rattle.fields.specs.declared.Behind.the-variants.{Comma, LineEnd}
-use Rattle.fields.specs.Found.{EndsAt, Follow, IsBetween, Between, Followed, NotFollowed, IsNameThen}
+use Rattle.fields.specs.Found.{Named, EndsAt, Follow, IsBetween, Between, Followed, NotFollowed, IsNameThen}
 
 module _ (Right : List ℕ → Type 0) (behind : Behind) (text : List ℕ) (at end : ℕ) (ends : EndsAt Right text at end) where
   -- a right field, and what has to stand behind it
@@ -30,11 +30,11 @@ module _ (Right : List ℕ → Type 0) (behind : Behind) (text : List ℕ) (at e
 
 -- a name, and what has to stand behind it
 pub name-followed :
-    (name : List ℕ) (behind : Behind) (text : List ℕ) (at end : ℕ) → EndsAt (λ bytes. bytes ≡ name) text at end
+    (name : List ℕ) (behind : Behind) (text : List ℕ) (at end : ℕ) → EndsAt (Named name) text at end
     → (place : Place) → IsBetween behind text end place
     → IsNameThen behind name text at place
-name-followed name behind text at end ends (At next) between = followed (λ bytes. bytes ≡ name) behind text at end ends next between
-name-followed name behind text at end ends Nowhere between = not-followed (λ bytes. bytes ≡ name) behind text at end ends between
+name-followed name behind text at end ends (At next) between = followed (Named name) behind text at end ends next between
+name-followed name behind text at end ends Nowhere between = not-followed (Named name) behind text at end ends between
 
 -- three fields with what has to stand behind each: the fields of the line from a place on
 module _ (One Two Three : List ℕ → Type 0) (text : List ℕ) where
@@ -52,12 +52,9 @@ module _ (One Two Three : List ℕ → Type 0) (text : List ℕ) where
   others-are : (at : ℕ) {field : List ℕ} {others : List (List ℕ)} → fieldsOf (restOfLine (drop at text)) ≡ field ∷ others → fieldsBehind (drop at text) ≡ others
   others-are at same = ap otherParts (sym (fields-are at) ∙ same)
 
-  some-follow : {field : List ℕ} {others : List (List ℕ)} → field ∷ others ≡ [] → ⊥
-  some-follow {others = others} none = let z : suc (length others) ≡ 0 = ap length none in omega arith
-
   -- the first is not so
   pub not-first : (at : ℕ) → NotFollowed One Comma text at → NotThree at
-  not-first at wrong first second third three one two last = wrong (subst (λ field. One (held field)) (first-is at three) one) (λ none. some-follow (sym (others-are at three) ∙ none))
+  not-first at wrong first second third three one two last = wrong (subst (λ field. One (held field)) (first-is at three) one) (λ none. cons≢nil (sym (others-are at three) ∙ none))
 
   module _ {at next : ℕ} (one-followed : Followed One Comma text at next) where
     behind-first : {first : List ℕ} {others : List (List ℕ)} → fieldsOf (restOfLine (drop at text)) ≡ first ∷ others → fieldsOf (restOfLine (drop next text)) ≡ others
@@ -66,7 +63,7 @@ module _ (One Two Three : List ℕ → Type 0) (text : List ℕ) where
     -- the second is not so
     pub not-second : NotFollowed Two Comma text next → NotThree at
     not-second wrong first second third three one two last =
-        let two-left = behind-first three in wrong (subst (λ field. Two (held field)) (first-is next two-left) two) (λ none. some-follow (sym (others-are next two-left) ∙ none))
+        let two-left = behind-first three in wrong (subst (λ field. Two (held field)) (first-is next two-left) two) (λ none. cons≢nil (sym (others-are next two-left) ∙ none))
 
     module _ {after : ℕ} (two-followed : Followed Two Comma text next after) where
       behind-second : {first second : List ℕ} {others : List (List ℕ)} → fieldsOf (restOfLine (drop at text)) ≡ first ∷ second ∷ others → fieldsOf (restOfLine (drop after text)) ≡ others

@@ -1,19 +1,19 @@
 -- A line by its three fields: a row, the header, or neither.
-use mathlib.Core.Path.{_≡_, refl}
+use mathlib.Core.Path.{_≡_, refl, ap, _∙_}
 use Prim.Native.Nat.{ℕ}
 use native.Mathlib.Omega.{arith}
 use mathlib.Core.Bool.{false}
-use mathlib.Core.List.{List}
+use mathlib.Core.List.{List, []}
 use mathlib.Core.Option.{Option, none, some, IsSome}
 use lib.ListN.{drop}
 use Rattle.listing.specs.Listing.{ascii}
 use Rattle.texts.specs.Text.{fieldsOf, held, numberIn, rowIn, names, hold}
-use Rattle.texts.specs.Rest.{restOfLine, restOfField}
-use Rattle.texts.proofs.ThreeFields.{three-numbers-row, no-row, three-names-held, names-not-held}
+use Rattle.texts.specs.Rest.{restOfLine, restOfField, IsNumber}
+use Rattle.texts.proofs.ThreeFields.{three-numbers-row, no-row, Pairwise, no-parts, two, Holds, names-held, names-not-held}
 use Rattle.fields.specs.declared.Place.{Place}
 use Rattle.fields.specs.declared.Place.the-variants.{At, Nowhere}
 use Rattle.fields.specs.declared.Behind.the-variants.{Comma, LineEnd}
-use Rattle.fields.specs.Found.{IsNumber, Held, Followed, RowAt, IsNameThen, IsHeader}
+use Rattle.fields.specs.Found.{NumberAt, Named, Followed, RowAt, IsNameThen, IsHeader}
 use Rattle.fields.proofs.Followed.{NotThree, not-third, all-three, lines-left}
 
 -- the number that is there
@@ -28,8 +28,8 @@ module _ (text : List ℕ) (at : ℕ) where
 
   -- three numbers with commas between and a line's end behind are one
   pub row-found :
-      {second third next c d t : ℕ} (is-c : Followed IsNumber Comma text at second × Held text at c) (is-d : Followed IsNumber Comma text second third × Held text second d)
-      → Followed IsNumber LineEnd text third next × Held text third t
+      {second third next c d t : ℕ} (is-c : Followed IsNumber Comma text at second × NumberAt text at c) (is-d : Followed IsNumber Comma text second third × NumberAt text second d)
+      → Followed IsNumber LineEnd text third next × NumberAt text third t
       → RowAt text at c d t next
   row-found {second} {third} is-c is-d is-t =
       let c = number-there (numberIn (held (restOfField (drop at text)))) (is-c .0 .right) in
@@ -46,15 +46,14 @@ module _ (text : List ℕ) (at : ℕ) where
         further = omega (arith, is-c .0 .further, is-d .0 .further, is-t .0 .further);
       }
 
--- a field that holds a name
-abbrev pub Named : List ℕ → List ℕ → Type 0
-Named name bytes = bytes ≡ name
-
 module _ (text : List ℕ) where
   -- a line with a field that is not so is no header
   pub not-the-header : NotThree (Named (ascii "wcet")) (Named (ascii "deadline")) (Named (ascii "period")) text 0 → hold (fieldsOf (restOfLine text)) names ≡ false
   unfolding names
-  not-the-header others = names-not-held (ascii "wcet") (ascii "deadline") (ascii "period") (fieldsOf (restOfLine text)) others
+  not-the-header others = names-not-held (fieldsOf (restOfLine text)) names (go refl)
+    where
+      go : {fields : List (List ℕ)} → fieldsOf (restOfLine text) ≡ fields → Pairwise Holds fields names → ⊥
+      go are (two {a = first} w (two {a = second} d (two {a = third} p no-parts))) = others first second third are w d p
 
   -- the names of the header, as they have to stand
   pub header-found :
@@ -62,6 +61,10 @@ module _ (text : List ℕ) where
       → (place : Place) → IsNameThen LineEnd (ascii "period") text third place
       → IsHeader text place
   unfolding names
-  header-found one two (At next) three =
-      (three-names-held (all-three _ _ _ text one two three) (one .right) (two .right) (three .right), lines-left _ _ _ text one two three, omega (arith, one .further, two .further, three .further), three .inside)
-  header-found one two Nowhere wrong = not-the-header (not-third (Named (ascii "wcet")) (Named (ascii "deadline")) (Named (ascii "period")) text one two wrong)
+  header-found w d (At next) p = (
+    ap (λ fields. hold fields names) (all-three _ _ _ text w d p) ∙ names-held (two (w .right) (two (d .right) (two (p .right) no-parts))),
+    lines-left _ _ _ text w d p,
+    omega (arith, w .further, d .further, p .further),
+    p .inside,
+  )
+  header-found w d Nowhere wrong = not-the-header (not-third (Named (ascii "wcet")) (Named (ascii "deadline")) (Named (ascii "period")) text w d wrong)

@@ -3,7 +3,7 @@ use mathlib.Core.Path.{_≡_, refl, sym, ap, _∙_}
 use Prim.Native.Nat.{ℕ, suc, _+_, _-_, _*_, _≤_, _<_}
 use native.Mathlib.Omega.{arith}
 use mathlib.Core.Bool.{true, false}
-use mathlib.Core.List.{List, [], _∷_, _++_, append-assoc}
+use mathlib.Core.List.{List, [], _∷_, _++_, append-assoc, nil≢cons}
 use lib.ListN.{length, getD, take, drop, length-append, drop-of-length-le}
 use lib.Seq.{take-suc}
 use Rattle.texts.specs.Text.{isDigit, beginsWith, numberFrom}
@@ -67,5 +67,4 @@ pub digits-stop : (text : List ℕ) (end : ℕ) → end < length text → isDigi
 digits-stop text end inside none byte others begins = ap isDigit (ap (λ rest. getD rest 0 0) (sym begins ∙ one-byte text end inside)) ∙ none
 
 pub text-stops : (text : List ℕ) (end : ℕ) → length text ≤ end → (byte : ℕ) (others : List ℕ) → drop end text ≡ byte ∷ others → isDigit byte ≡ false
-text-stops text end past byte others begins =
-    absurd (let z : 0 ≡ suc (length others) = ap length (sym (drop-of-length-le text past) ∙ begins) in omega arith)
+text-stops text end past byte others begins = absurd (nil≢cons (sym (drop-of-length-le text past) ∙ begins))

@@ -3,11 +3,11 @@ use mathlib.Core.Path.{_≡_}
 use Prim.Native.Nat.{ℕ, _+_, _≤_, _<_, min}
 use mathlib.Core.Bool.{true, false}
 use mathlib.Core.List.{List, [], _∷_, _++_}
-use mathlib.Core.Option.{none, some, IsSome}
+use mathlib.Core.Option.{none, some}
 use lib.ListN.{length, getD, take, drop}
 use Rattle.theory.specs.Row.{Row}
-use Rattle.texts.specs.Text.{LF, CR, quote, comma, isDigit, beginsWith, linesOf, fieldsOf, held, numberFrom, numberIn, rowIn, names, hold}
-use Rattle.texts.specs.Rest.{restOfLine, linesBehind, restOfField, fieldsBehind}
+use Rattle.texts.specs.Text.{quote, isDigit, beginsWith, linesOf, fieldsOf, held, numberFrom, numberIn, rowIn, names, hold}
+use Rattle.texts.specs.Rest.{restOfLine, linesBehind, restOfField, fieldsBehind, IsNumber}
 use Rattle.fields.specs.declared.Place.{Place}
 use Rattle.fields.specs.declared.Place.the-variants.{At, Nowhere}
 use Rattle.fields.specs.declared.Behind.{Behind}
@@ -18,7 +18,14 @@ use Rattle.fields.specs.declared.Field.the-variants.{Number, Broken}
 use Rattle.fields.specs.declared.Line.{Line}
 use Rattle.fields.specs.declared.Line.the-variants as line
 
--- a number as the code holds it: above a million it is a million and one, which breaks the same limits
+-- what the field at a place holds, and the fields of the line from there on
+abbrev pub heldAt : List ℕ → ℕ → List ℕ
+heldAt text at = held (restOfField (drop at text))
+
+abbrev pub fieldsAt : List ℕ → ℕ → List (List ℕ)
+fieldsAt text at = fieldsOf (restOfLine (drop at text))
+
+-- a number as the code holds it: above a million it is a million and one; a row so held breaks a limit exactly where the row itself does
 abbrev pub capped : ℕ → ℕ
 capped n = min n 1_000_001
 
@@ -61,32 +68,32 @@ IsFieldEnd text at end Nowhere = (beginsWith quote (drop at text) ≡ true) × (
 pub record EndsAt (Right : List ℕ → Type 0) (text : List ℕ) (at next : ℕ) : Type 0 where
   pub same-lines : linesBehind (drop at text) ≡ linesBehind (drop next text)
   pub same-fields : fieldsBehind (drop at text) ≡ fieldsBehind (drop next text)
-  pub right-there : restOfField (drop next text) ≡ [] → Right (held (restOfField (drop at text)))
-  pub only-there : Right (held (restOfField (drop at text))) → restOfField (drop next text) ≡ []
+  pub right-there : restOfField (drop next text) ≡ [] → Right (heldAt text at)
+  pub only-there : Right (heldAt text at) → restOfField (drop next text) ≡ []
   pub inside : next ≤ length text
   pub further : at < next
 
 -- the field at a place does not hold what is right
 abbrev pub Wrong : (List ℕ → Type 0) → List ℕ → ℕ → Type 0
-Wrong Right text at = Right (held (restOfField (drop at text))) → ⊥
+Wrong Right text at = Right (heldAt text at) → ⊥
 
--- bytes that are a number
-abbrev pub IsNumber : List ℕ → Type 0
-IsNumber bytes = IsSome (numberIn bytes)
-
--- a number as the code holds it is what the field at a place holds
-abbrev pub Held : List ℕ → ℕ → ℕ → Type 0
-Held text at n = (m : ℕ) → numberIn (held (restOfField (drop at text))) ≡ some m → n ≡ capped m
+-- where the field at a place holds a number, this is it, as the code holds it
+abbrev pub NumberAt : List ℕ → ℕ → ℕ → Type 0
+NumberAt text at n = (m : ℕ) → numberIn (heldAt text at) ≡ some m → n ≡ capped m
 
 -- the field at a place: a number, or not
 abbrev pub IsField : List ℕ → ℕ → Field → Type 0
-IsField text at (Number n next) = EndsAt IsNumber text at next × Held text at n
+IsField text at (Number n next) = EndsAt IsNumber text at next × NumberAt text at n
 IsField text at Broken = Wrong IsNumber text at
+
+-- bytes that are a name
+abbrev pub Named : List ℕ → List ℕ → Type 0
+Named name bytes = bytes ≡ name
 
 -- the field at a place: a name, or not
 abbrev pub IsName : List ℕ → List ℕ → ℕ → Place → Type 0
-IsName name text at (At next) = EndsAt (λ bytes. bytes ≡ name) text at next
-IsName name text at Nowhere = Wrong (λ bytes. bytes ≡ name) text at
+IsName name text at (At next) = EndsAt (Named name) text at next
+IsName name text at Nowhere = Wrong (Named name) text at
 
 -- the fields behind a field, as they have to be: some, or none
 abbrev pub Follow : Behind → List (List ℕ) → Type 0
@@ -95,7 +102,7 @@ Follow LineEnd fields = fields ≡ []
 
 -- the fields and lines behind a comma, or behind a line end
 abbrev pub fieldsOn : Behind → List ℕ → ℕ → List (List ℕ)
-fieldsOn Comma text next = fieldsOf (restOfLine (drop next text))
+fieldsOn Comma text next = fieldsAt text next
 fieldsOn LineEnd text next = []
 
 abbrev pub linesOn : Behind → List ℕ → ℕ → List (List ℕ)
@@ -116,7 +123,7 @@ IsBetween behind text at Nowhere = restOfField (drop at text) ≡ [] → Follow 
 
 -- the field at a place holds what is right, and what has to is behind it
 pub record Followed (Right : List ℕ → Type 0) (behind : Behind) (text : List ℕ) (at next : ℕ) : Type 0 where
-  pub right : Right (held (restOfField (drop at text)))
+  pub right : Right (heldAt text at)
   pub fields-follow : fieldsBehind (drop at text) ≡ fieldsOn behind text next
   pub lines-follow : linesBehind (drop at text) ≡ linesOn behind text next
   pub inside : next ≤ length text
@@ -124,15 +131,15 @@ pub record Followed (Right : List ℕ → Type 0) (behind : Behind) (text : List
 
 -- or it is not so
 abbrev pub NotFollowed : (List ℕ → Type 0) → Behind → List ℕ → ℕ → Type 0
-NotFollowed Right behind text at = Right (held (restOfField (drop at text))) → Follow behind (fieldsBehind (drop at text)) → ⊥
+NotFollowed Right behind text at = Right (heldAt text at) → Follow behind (fieldsBehind (drop at text)) → ⊥
 
 abbrev pub IsFieldThen : Behind → List ℕ → ℕ → Field → Type 0
-IsFieldThen behind text at (Number n next) = Followed IsNumber behind text at next × Held text at n
+IsFieldThen behind text at (Number n next) = Followed IsNumber behind text at next × NumberAt text at n
 IsFieldThen behind text at Broken = NotFollowed IsNumber behind text at
 
 abbrev pub IsNameThen : Behind → List ℕ → List ℕ → ℕ → Place → Type 0
-IsNameThen behind name text at (At next) = Followed (λ bytes. bytes ≡ name) behind text at next
-IsNameThen behind name text at Nowhere = NotFollowed (λ bytes. bytes ≡ name) behind text at
+IsNameThen behind name text at (At next) = Followed (Named name) behind text at next
+IsNameThen behind name text at Nowhere = NotFollowed (Named name) behind text at
 
 -- the header, and the place behind it; or another line
 abbrev pub IsHeader : List ℕ → Place → Type 0
@@ -142,7 +149,7 @@ IsHeader text Nowhere = hold (fieldsOf (restOfLine text)) names ≡ false
 -- the line from a place on: a row, as the code holds it
 pub record RowAt (text : List ℕ) (at c d t next : ℕ) : Type 0 where
   pub row : Row
-  pub is-row : rowIn (fieldsOf (restOfLine (drop at text))) ≡ some row
+  pub is-row : rowIn (fieldsAt text at) ≡ some row
   pub c-held : c ≡ capped (row .C)
   pub d-held : d ≡ capped (row .D)
   pub t-held : t ≡ capped (row .T)
@@ -153,11 +160,4 @@ pub record RowAt (text : List ℕ) (at c d t next : ℕ) : Type 0 where
 -- a row, or no row
 abbrev pub IsLine : List ℕ → ℕ → Line → Type 0
 IsLine text at (line.Row c d t next) = RowAt text at c d t next
-IsLine text at line.Broken = rowIn (fieldsOf (restOfLine (drop at text))) ≡ none
-
--- a byte of a name: no line end, comma or quote
-pub record NameByte (byte : ℕ) : Type 0 where
-  pub no-LF : byte ≡ LF → ⊥
-  pub no-CR : byte ≡ CR → ⊥
-  pub no-comma : byte ≡ comma → ⊥
-  pub no-quote : byte ≡ quote → ⊥
+IsLine text at line.Broken = rowIn (fieldsAt text at) ≡ none

@@ -4,8 +4,9 @@ ghost use Prim.Native.Nat.{_+_, _≤_, _<_};
 ghost use lib.ListN.{length, drop};
 ghost use Rattle.theory.specs.Gather.{All};
 ghost use Rattle.texts.specs.Text.{isDigit, beginsWith};
+ghost use Rattle.texts.specs.Rest.{Plain};
 ghost use Rattle.fields.specs.declared.Behind.the-variants.{Comma, LineEnd};
-ghost use Rattle.fields.specs.Found.{capped, opening, IsDigits, Matches, IsFieldEnd, IsField, IsName, IsBetween, IsFieldThen, IsNameThen, IsHeader, IsLine, NameByte};
+ghost use Rattle.fields.specs.Found.{capped, opening, IsDigits, Matches, IsFieldEnd, IsField, IsName, IsBetween, IsFieldThen, IsNameThen, IsHeader, IsLine};
 
 // A place in a text, or none.
 pub enum Place {
@@ -143,7 +144,7 @@ fn read_number(text: &[u8], at: usize) -> Field
 
 // The field at a place, where a name is wanted.
 fn read_name(text: &[u8], at: usize, name: &[u8]) -> Place
-    requires { ⌜ (at ≤ length (now text)) × (0 < length (now name)) × All NameByte (now name) ⌝ }
+    requires { ⌜ (at ≤ length (now text)) × (0 < length (now name)) × All Plain (now name) ⌝ }
     ensures { λ r. ⌜ IsName (now (name .entry)) (now (text .entry)) at r ⌝ }
 {
     let content = content_at(text, at);
@@ -212,7 +213,7 @@ fn number_then(text: &[u8], at: usize, behind: Behind) -> Field
 
 // The field at a place, where a name is wanted and something behind it.
 fn name_then(text: &[u8], at: usize, name: &[u8], behind: Behind) -> Place
-    requires { ⌜ (at ≤ length (now text)) × (0 < length (now name)) × All NameByte (now name) ⌝ }
+    requires { ⌜ (at ≤ length (now text)) × (0 < length (now name)) × All Plain (now name) ⌝ }
     ensures { λ r. ⌜ IsNameThen behind (now (name .entry)) (now (text .entry)) at r ⌝ }
 {
     match read_name(text, at, name) {

@@ -12,7 +12,7 @@ use Rattle.records.specs.Number.{numberAt, fourBytes}
 use Rattle.records.specs.ListBytes.{numbersIn, bytesOf}
 use Rattle.records.proofs.Number.{four-bytes-long}
 use Rattle.records.proofs.ListBytes.{numbers-length}
-use Rattle.numbers.proofs.Written.{written, one-more-written}
+use Rattle.numbers.proofs.Written.{written, written-from-front, one-more-written}
 
 -- the number at a place stands in the four bytes from four times that place on
 number-stands : (bytes : List ℕ) (j : ℕ) → 4 * j + 4 ≤ length bytes → getD (numbersIn bytes) j 0 ≡ numberAt (4 * j) bytes
@@ -48,4 +48,4 @@ number-more-put before numbers now j inside so-far =
 
 -- all are written
 pub numbers-all-put : (before numbers : List ℕ) (j : ℕ) → j ≡ length numbers → written before 0 (bytesOf (take j numbers)) ≡ filled (bytesOf numbers) before
-numbers-all-put before numbers j all = rw (all, take-length numbers, zero-add)
+numbers-all-put before numbers j all = rw (all, take-length numbers) (written-from-front before (bytesOf numbers))

@@ -3,14 +3,20 @@ use mathlib.Core.Path.{_≡_, sym, ap, _∙_}
 use Prim.Native.Nat.{ℕ, _+_, _*_, _≤_, _<_}
 use mathlib.Core.List.{List, [], _∷_, _++_, flatMap, append-assoc, append-nil}
 use native.Mathlib.Omega.{arith}
+use native.Mathlib.Nat.{zero-add}
 use native.Mathlib.Numerals.{add-one}
 use lib.ListN.{length, getD, take, drop, length-append}
 use lib.Seq.{length-take-le, take-at, take-suc, drop-append-add, drop-drop}
+use Rattle.theory.specs.Lists.{filled}
 use Rattle.records.proofs.Lengths.{flat-map-length}
 
 -- bytes with a part written from a place on
 abbrev pub written : List ℕ → ℕ → List ℕ → List ℕ
 written before at part = take at before ++ part ++ drop (at + length part) before
+
+-- from the front on: the front is filled with the part
+pub written-from-front : (before part : List ℕ) → written before 0 part ≡ filled part before
+written-from-front before part = rw zero-add
 
 -- a part, and more behind it, are one part
 pub written-behind :

@@ -6,7 +6,7 @@ use mathlib.Core.Bool.{Bool, true, false}
 use mathlib.Core.List.{List, [], _∷_, _++_, append-assoc}
 use lib.Dec.{leb}
 use lib.ListN.{length, length-append}
-use borrow.Author.Tests.{leb-true, leb-false, lt-ltb, le-ltb, eq-eqb, ne-eqb, le-leb, lt-leb}
+use borrow.Author.Tests.{leb-true, leb-false, eq-eqb, ne-eqb, le-leb, lt-leb}
 use Rattle.answers.specs.declared.Answer.{Answer}
 use Rattle.answers.specs.declared.Answer.the-variants.{Accepted, CoresOutOfRange, RowsOutOfRange, RowBreaksLimits}
 use Rattle.answers.specs.Answer.{numberOf}
@@ -15,6 +15,7 @@ use Rattle.theory.proofs.Limits.{passing-keeps-limits}
 use Rattle.records.specs.Reading.{Reading, refused}
 use Rattle.reading.specs.Held.{refusedBy}
 use Rattle.texts.specs.Table.{judged}
+use Rattle.texts.proofs.Judged.{judged-25th, judged-broken, judged-on}
 use Rattle.fields.specs.Found.{capped}
 use Rattle.parsing.specs.Judging.{judgedRow, judgedTable}
 
@@ -62,7 +63,6 @@ module _ (rows : List Row) (fault : Answer) (row : Row) where
 
   -- one row more
   pub row-judged : Judging rows fault → Judging (rows ++ (row ∷ [])) (judgedRow fault (length rows) (cappedRow row))
-  unfolding judged
   row-judged (faulty some judges) = rw (ne-eqb (numberOf fault) 0 some, judgedRow) (faulty some (λ more whole. behind more whole ∙ judges (row ∷ more) whole))
   row-judged (sound none few judges) =
       subst (λ (first : Answer). Judging (rows ++ (row ∷ [])) (judgedRow first (length rows) (cappedRow row))) (sym none)
@@ -75,19 +75,20 @@ module _ (rows : List Row) (fault : Answer) (row : Row) where
           (full : Bool) → leb 24 (length rows) ≡ full → (within : Bool) → withinLimits (cappedRow row) ≡ within
           → Judging (rows ++ (row ∷ [])) (elim full [ true ↦ RowsOutOfRange | false ↦ elim within [ true ↦ Accepted | false ↦ RowBreaksLimits (length rows + 1) ] ])
       go true full within limits =
-          faulty (λ zero-number. omega arith) (λ more whole. first more whole ∙ rw (lt-ltb 24 (suc (length rows)) (omega (arith, leb-true 24 (length rows) full)), judged))
+          faulty (λ zero-number. omega arith) (λ more whole. first more whole ∙ judged-25th (suc (length rows)) row more whole (omega (arith, leb-true 24 (length rows) full)))
       go false full true limits =
+          let room = leb-false 24 (length rows) full in
           let next : suc (suc (length rows)) ≡ suc (length (rows ++ (row ∷ []))) = omega (arith, many-more) in
-          sound refl (omega (arith, many-more, leb-false 24 (length rows) full)) (λ more whole.
+          sound refl (omega (arith, many-more, room)) (λ more whole.
           first more whole
-          ∙ rw (le-ltb 24 (suc (length rows)) (omega (arith, leb-false 24 (length rows) full)), sym (ap withinLimits (capped-within row limits)) ∙ limits, judged)
-          (ap (λ (number : ℕ). judged number more whole) next))
+          ∙ judged-on (suc (length rows)) row more whole room (sym (ap withinLimits (capped-within row limits)) ∙ limits)
+          ∙ ap (λ (number : ℕ). judged number more whole) next)
       go false full false limits =
           let number : suc (length rows) ≡ length rows + 1 = omega arith in
           faulty (λ zero-number. omega arith) (λ more whole.
           first more whole
-          ∙ rw (le-ltb 24 (suc (length rows)) (omega (arith, leb-false 24 (length rows) full)), capped-broken row limits, judged)
-          (ap (refused 4) number))
+          ∙ judged-broken (suc (length rows)) row more whole (leb-false 24 (length rows) full) (capped-broken row limits)
+          ∙ ap (refused 4) number)
 
 -- the answer to one row more, case by case
 module _ (fault : Answer) (n : ℕ) (row : Row) where

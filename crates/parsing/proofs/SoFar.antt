@@ -149,11 +149,7 @@ module _ (text : List ℕ) (start : ℕ) where
           {longer-c longer-d longer-t : List ℕ} {judges : Answer}
           → longer-c ≡ set c n execution → longer-d ≡ set d n deadline → longer-t ≡ set t n period → judges ≡ judgedRow fault n taken
           → SoFar text start longer-c longer-d longer-t (n + 1) judges next
-      goes-on {longer-c} {longer-d} {longer-t} {judges} is-c is-d is-t is-fault =
-          subst (λ (x : List ℕ). SoFar text start x longer-d longer-t (n + 1) judges next) (sym is-c)
-          (subst (λ (x : List ℕ). SoFar text start (set c n execution) x longer-t (n + 1) judges next) (sym is-d)
-          (subst (λ (x : List ℕ). SoFar text start (set c n execution) (set d n deadline) x (n + 1) judges next) (sym is-t)
-          (subst (λ (x : Answer). SoFar text start (set c n execution) (set d n deadline) (set t n period) (n + 1) x next) (sym is-fault) one-row-more)))
+      goes-on is-c is-d is-t is-fault = rw (is-c, is-d, is-t, is-fault) one-row-more
 
     -- a line that is no row
     pub breaks :

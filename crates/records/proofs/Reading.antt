@@ -1,7 +1,6 @@
 -- A table that is read keeps the rules, and has the bytes that were read.
 use mathlib.Core.Path.{_≡_, ap, _∙_, sym}
 use Prim.Native.Nat.{ℕ, zero, suc, _≤_, suc-le-suc}
-use native.Mathlib.Nat.{le-of-suc-le-suc}
 use mathlib.Core.Bool.{_&&_}
 use mathlib.Core.List.{List, [], _∷_, _++_, flatMap, append-nil}
 use native.Mathlib.Omega.{arith}
@@ -10,18 +9,13 @@ use lib.ListN.{length, drop}
 use lib.Seq.{append-snoc}
 use borrow.Author.Tests.{leb-true, eqb-true}
 use Rattle.theory.specs.Row.{Row, WithinLimits, AllWithin}
-use Rattle.theory.proofs.Limits.{both-pass}
+use Rattle.theory.proofs.Limits.{within-cons, both-pass}
 use Rattle.placement.specs.Core.{Table}
 use Rattle.records.specs.Number.{fourBytes}
 use Rattle.records.specs.Reading.{table, refused, TableWithin, rowIn, readRow, readRows, readCores, readTable}
 use Rattle.records.specs.Report.{rowRecord, countRecord, tableRecords, tableBytes}
 use Rattle.records.proofs.Number.{AllBelow, all-below-drop}
 use Rattle.records.proofs.ReadingRecord.{rowBody, refusal-no-table, test-passed, RecordRead, row-record, count-record, record-read, row-read, whole-body}
-
--- a row within the limits before others within them
-within-cons : (row : Row) (rows : List Row) → WithinLimits row → AllWithin rows → AllWithin (row ∷ rows)
-within-cons row rows here others zero inside = here
-within-cons row rows here others (suc k) inside = others k (le-of-suc-le-suc inside)
 
 -- what was read behind kind 1 and the rows so far, on the way to a table
 record RowsRead (left cores : ℕ) (rows : List Row) (bytes : List ℕ) (t : Table) : Type 0 where

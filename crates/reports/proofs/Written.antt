@@ -3,14 +3,13 @@ use mathlib.Core.Path.{_≡_, refl, ap, _∙_}
 use Prim.Native.Nat.{ℕ, _+_, _≤_}
 use mathlib.Core.List.{List, [], _∷_, _++_, append-assoc}
 use native.Mathlib.Omega.{arith}
-use native.Mathlib.Nat.{zero-add}
 use lib.ListN.{length, set, length-append, length-set}
 use lib.Seq.{sets-eq}
 use Rattle.theory.specs.Row.{Row}
 use Rattle.theory.specs.Lists.{filled}
 use Rattle.records.specs.Number.{fourBytes}
 use Rattle.records.specs.Report.{rowRecord}
-use Rattle.numbers.proofs.Written.{written, written-behind}
+use Rattle.numbers.proofs.Written.{written, written-behind, written-from-front}
 
 -- three parts written one behind another are written as one
 pub three-written :
@@ -27,9 +26,9 @@ three-written before first second third at middle end p q r fits to-middle to-en
     let three = written-behind before at (p ++ q) r end fits (omega (arith, length-append p q)) in
     cc (two, three)
 
--- parts written from the front on fill it
-pub written-from-front : (before p q r : List ℕ) → written before 0 (p ++ q ++ r) ≡ filled (p ++ (q ++ r)) before
-written-from-front before p q r = rw (append-assoc p q r, zero-add)
+-- from the front on they fill it
+pub three-fill : (before p q r : List ℕ) → written before 0 (p ++ q ++ r) ≡ filled (p ++ (q ++ r)) before
+three-fill before p q r = rw (append-assoc p q r) (written-from-front before (p ++ (q ++ r)))
 
 -- a kind 2 byte and the three numbers behind it are a row's record
 pub row-record-written :

@@ -15,10 +15,11 @@ use Rattle.placement.specs.Figures.{Figures}
 use Rattle.records.specs.Number.{fourBytes}
 use Rattle.records.specs.Reading.{TableWithin, table, readTable, rowIn}
 use Rattle.records.specs.Report.{rowRecord, figuresRecord, countRecord, tableRecords, tableBytes, reportBytes}
-use Rattle.records.proofs.ReadingRecord.{refusal-no-table, row-reads-back}
+use Rattle.records.proofs.ReadingRecord.{row-reads-back}
 use Rattle.records.proofs.ReadingBack.{table-reads-back}
 use Rattle.records.proofs.Lengths.{table-records-length}
 use Rattle.service.specs.Table.{TableAnswered}
+use Rattle.service.proofs.Accepted.{accepted-report}
 
 -- in bytes that begin with rows' records, each row stands at its place
 row-stands : (rows : List Row) (others : List ℕ) → AllWithin rows → (i : ℕ) → i < length rows → rowIn (drop (1 + 13 * i) (flatMap rowRecord rows ++ others)) ≡ rowAt rows i
@@ -46,10 +47,9 @@ module _ (rule : Rule) (t : Table) (within : TableWithin t) (report : List ℕ) 
 
   -- AN ACCEPTED REPORT BEGINS WITH THE TABLE
   pub table-copied : {returns : Returned} {after : List ℕ} → TableAnswered rule (tableBytes t) report returns after → returns ≡ returned 0 0 → take copied after ≡ tableRecords t
-  table-copied (TableAnswered.not-a-table number row refused) accepted = absurd (refusal-no-table (sym refused ∙ table-reads-back t within))
-  table-copied (TableAnswered.output-too-short u reads short) accepted = absurd (let z : _≡_ {A = ℕ} 7 0 = ap (λ (r : Returned). r .number) accepted in omega arith)
-  table-copied (TableAnswered.no-core-takes u i reads long stopped) accepted = absurd (let z : _≡_ {A = ℕ} 6 0 = ap (λ (r : Returned). r .number) accepted in omega arith)
-  table-copied (TableAnswered.accepted u all reads long certified) accepted = ap (λ (x : Table). take copied (filled (reportBytes x all) report)) (own-table u reads) ∙ begins all
+  table-copied answered accepted =
+      let report-of = accepted-report answered accepted in
+      ap (take copied) (report-of .is-report ∙ ap (λ (x : Table). filled (reportBytes x (report-of .figures)) report) (own-table (report-of .of-table) (report-of .is-table))) ∙ begins (report-of .figures)
 
   -- behind the kind of its record each row stands in it
   pub row-copied : {returns : Returned} {after : List ℕ} → TableAnswered rule (tableBytes t) report returns after → returns ≡ returned 0 0

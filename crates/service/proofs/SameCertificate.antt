@@ -1,8 +1,7 @@
 -- A text and table bytes that are one table get one certificate: the same row where no core takes one, else the same figures.
-use mathlib.Core.Path.{_≡_, refl, sym, ap, _∙_}
+use mathlib.Core.Path.{_≡_, refl, sym, ap, subst, _∙_}
 use Prim.Native.Nat.{ℕ, suc}
 use mathlib.Core.List.{List}
-use native.Mathlib.Omega.{arith}
 use Rattle.theory.specs.Returned.{Returned, returned}
 use Rattle.theory.specs.Lists.{filled}
 use Rattle.placement.specs.Core.{Table}
@@ -14,6 +13,7 @@ use Rattle.texts.specs.Table.{readText}
 use Rattle.texts.specs.Columns.{certifiedText}
 use Rattle.service.specs.Table.{TableAnswered}
 use Rattle.service.specs.Text.{TextAnswered}
+use Rattle.service.proofs.Accepted.{accepted-report, accepted-text}
 use Rattle.service.proofs.Determined.{one-table, not-both, one-stop, one-list, not-certified}
 
 -- the figures of a table, in the text and in the report that two accepted calls leave
@@ -53,23 +53,16 @@ module _ {rule : Rule} (is-rule : IsRule rule) (cores : ℕ) (text bytes : List 
     pub same-certificate :
         {n : ℕ} {written after : List ℕ} → TextAnswered rule cores text lent (returned 0 0) n written → TableAnswered rule bytes report (returned 0 0) after
         → OneCertificate rule t lent written report after
-    same-certificate first second = go refl refl first second
-      where
-        go :
-            {a b : Returned} {n : ℕ} {written after : List ℕ} → a ≡ returned 0 0 → b ≡ returned 0 0 → TextAnswered rule cores text lent a n written → TableAnswered rule bytes report b after
-            → OneCertificate rule t lent written report after
-        go a-accepted b-accepted (TextAnswered.not-a-table number row p) second = not-both as-text p
-        go a-accepted b-accepted (TextAnswered.no-core-takes u i p s) second = absurd (let z : _≡_ {A = ℕ} 6 0 = ap (λ (r : Returned). r .number) a-accepted in omega arith)
-        go a-accepted b-accepted (TextAnswered.output-too-short u all p c s) second = absurd (let z : _≡_ {A = ℕ} 7 0 = ap (λ (r : Returned). r .number) a-accepted in omega arith)
-        go a-accepted b-accepted (TextAnswered.accepted u all p c l) (TableAnswered.not-a-table number row q) = not-both as-bytes q
-        go a-accepted b-accepted (TextAnswered.accepted u all p c l) (TableAnswered.output-too-short v q r) = absurd (let z : _≡_ {A = ℕ} 7 0 = ap (λ (r : Returned). r .number) b-accepted in omega arith)
-        go a-accepted b-accepted (TextAnswered.accepted u all p c l) (TableAnswered.no-core-takes v j q m r) = absurd (let z : _≡_ {A = ℕ} 6 0 = ap (λ (r : Returned). r .number) b-accepted in omega arith)
-        go a-accepted b-accepted (TextAnswered.accepted u all p c l) (TableAnswered.accepted v others q m d) =
-            let u-is : u ≡ t = one-table p as-text in
-            let v-is : v ≡ t = one-table q as-bytes in
-            record {
-              figures = all;
-              is-certified = rw (sym u-is) c;
-              is-text = ap (λ (x : Table). filled (certifiedText (x .rows) all) lent) u-is;
-              is-report = ap (λ (x : Table). filled (reportBytes x others) report) v-is ∙ ap (λ (x : List Figures). filled (reportBytes t x) report) (one-list is-rule (of-bytes q) (of-text p) d c);
-            }
+    same-certificate first second =
+        let one = accepted-text first refl in
+        let other = accepted-report second refl in
+        let same-text = one-table (one .is-table) as-text in
+        record {
+          figures = one .figures;
+          is-certified = subst (λ (x : Table). Certified rule x (one .figures)) same-text (one .is-certified);
+          is-text = one .is-text ∙ ap (λ (x : Table). filled (certifiedText (x .rows) (one .figures)) lent) same-text;
+          is-report =
+              other .is-report
+              ∙ ap (λ (x : Table). filled (reportBytes x (other .figures)) report) (one-table (other .is-table) as-bytes)
+              ∙ ap (λ (x : List Figures). filled (reportBytes t x) report) (one-list is-rule (of-bytes (other .is-table)) (of-text (one .is-table)) (other .is-certified) (one .is-certified));
+        }

@@ -16,9 +16,9 @@ use Rattle.records.specs.Report.{tableBytes}
 use Rattle.records.proofs.ReadingBack.{table-reads-back}
 use Rattle.texts.specs.Table.{readText}
 use Rattle.texts.specs.Columns.{certifiedText}
-use Rattle.texts.proofs.Reading.{read-text-within}
-use Rattle.texts.proofs.Refused.{text-refused}
+use Rattle.texts.proofs.Reading.{read-text-within, text-refused}
 use Rattle.service.specs.Text.{TextAnswered, TextTabled}
+use Rattle.service.proofs.Accepted.{not-accepted}
 use Rattle.service.proofs.Determined.{one-table, one-refusal, not-both, one-stop, one-list, not-certified}
 
 -- two results of a service on a text that are the same
@@ -79,7 +79,7 @@ module _ (cores : ℕ) (text lent : List ℕ) where
 
   -- THE BYTES THAT ARE WRITTEN ARE READ AS WHAT THE TEXT IS READ AS
   pub tabled-reads-back : {returns : Returned} {n : ℕ} {after : List ℕ} → TextTabled cores text lent returns n after → returns ≡ returned 0 0 → readTable (take n after) ≡ readText cores text
-  tabled-reads-back (TextTabled.not-a-table number row refused) accepted = absurd (let z : number ≡ 0 = ap (λ (r : Returned). r .number) accepted in omega (arith, text-refused cores text number row refused .from-2))
-  tabled-reads-back (TextTabled.output-too-short t reads short) accepted = absurd (let z : _≡_ {A = ℕ} 7 0 = ap (λ (r : Returned). r .number) accepted in omega arith)
+  tabled-reads-back (TextTabled.not-a-table number row refused) accepted = not-accepted (omega (arith, text-refused cores text number row refused .from-2)) accepted
+  tabled-reads-back (TextTabled.output-too-short t reads short) accepted = not-accepted (omega arith) accepted
   tabled-reads-back (TextTabled.accepted t reads long) accepted =
       ap readTable (take-at (tableBytes t) (drop (length (tableBytes t)) lent) (length (tableBytes t)) refl) ∙ table-reads-back t (read-text-within cores text t reads) ∙ sym reads

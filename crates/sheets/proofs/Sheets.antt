@@ -22,6 +22,7 @@ use Rattle.placement.specs.Computed.{takes, candidateAt, takers, chosenOf, step
 use Rattle.listing.specs.Listing.{ascii, headerLine, digitsBefore, decimal, rowLine, rowLines, smallestAllowance, systemAllowance, listing, refusal}
 use Rattle.texts.specs.Text.{inFront, linesOf, fieldsOf, held, numberFrom, numberIn, rowFrom, rowIn, names, sameBytes, hold, withRow, rowsFrom, headed, textOf as textIs}
 use Rattle.texts.specs.Table.{judged, tableFrom, inRowsPlace, onCores, readText}
+use Rattle.texts.specs.Forms.{joined}
 use Rattle.texts.specs.Columns.{lineOf, allNames, certifiedLine, certifiedLines, certifiedText}
 use Rattle.sheets.specs.Sheets.{Sheet, set-accepted, set-refused, below-one, walk-yields, points-as-set, bound-on, slack-at, quotient-at, order-taken, listed, table-refused, limited-by, why-refused, text-accepted, text-refused, Holds, sheets}
 use Rattle.sheets.proofs.Test.{sameList, oneOf, isSet, isTable, textOf, refusesWith, missesFirst, refusesLate, isFirst, limitedAt, whyRefused, passes, allPass}
@@ -84,7 +85,7 @@ each-holds (first ∷ others) t sheet m = go (each-holds others (and-second (pas
 
 -- the test, computed over the whole list
 all-pass : T (allPass sheets)
-unfolding sheets allPass passes sameList oneOf isSet isTable missesFirst refusesLate isFirst limitedAt whyRefused upFrom keep sum every insert sort best rivals levels ceil demand load climb outcome onTime lastMultiple walk points slack floorDiv times quotient bound pointAllowance allowance coreAllowance work coreRows placeOnCore taken takes candidateAt takers chosenOf stepOf run figuresOf certificateOf certificate ascii headerLine digitsBefore decimal rowLine rowLines smallestAllowance systemAllowance listing refusal inFront linesOf fieldsOf held numberFrom numberIn rowFrom rowIn names sameBytes hold withRow rowsFrom headed textIs judged tableFrom inRowsPlace onCores readText lineOf allNames certifiedLine certifiedLines certifiedText
+unfolding sheets allPass passes sameList oneOf isSet isTable missesFirst refusesLate isFirst limitedAt whyRefused upFrom keep sum every insert sort best rivals levels ceil demand load climb outcome onTime lastMultiple walk points slack floorDiv times quotient bound pointAllowance allowance coreAllowance work coreRows placeOnCore taken takes candidateAt takers chosenOf stepOf run figuresOf certificateOf certificate ascii headerLine digitsBefore decimal rowLine rowLines smallestAllowance systemAllowance listing refusal inFront linesOf fieldsOf held numberFrom numberIn rowFrom rowIn names sameBytes hold withRow rowsFrom headed textIs judged tableFrom inRowsPlace onCores readText joined lineOf allNames certifiedLine certifiedLines certifiedText
 all-pass = tt
 
 -- EVERY SHEET HOLDS

@@ -20,10 +20,12 @@ use Rattle.records.specs.Reading.{table, refused}
 use Rattle.listing.specs.Listing.{ascii, digitsBefore, decimal}
 use Rattle.texts.specs.Text.{LF, CR, inFront, linesOf, fieldsOf, held, numberFrom, numberIn, rowFrom, rowIn, names, sameBytes, hold, of-rows, not-of-the-form, withRow, rowsFrom, headed, textOf}
 use Rattle.texts.specs.Table.{judged, tableFrom, inRowsPlace, onCores, readText}
+use Rattle.texts.specs.Forms.{joined}
 use Rattle.texts.specs.Columns.{lineOf, allNames, certifiedLine, certifiedLines, certifiedText}
 use Rattle.texts.proofs.Whole.{InLine}
 use Rattle.texts.proofs.Ends.{EndsIn, last-byte}
 use Rattle.service.specs.Text.{TextAnswered}
+use Rattle.service.proofs.Accepted.{numbers-differ}
 use Rattle.service.proofs.Text.{text-answered-unique}
 use Rattle.sheets.specs.Sheets.{text-accepted, text-refused, row, underHeader, textOfSheetFour}
 use Rattle.sheets.proofs.Test.{sameList, isSet, isTable, passes}
@@ -60,7 +62,7 @@ known : T (passes (text-accepted 1 fives fivesWritten))
     × T (passes (text-refused 1 (underHeader (ascii "1,,2\n")) 9 2))
     × T (passes (text-refused 1 (underHeader []) 3 0))
     × T (passes (text-refused 2 textOfSheetFour 6 5))
-unfolding row underHeader textOfSheetFour passes sameList isSet isTable upFrom keep sum every insert sort best rivals levels ceil demand load climb outcome onTime lastMultiple walk points slack floorDiv times quotient bound pointAllowance allowance coreAllowance coreRows placeOnCore taken takes candidateAt takers chosenOf stepOf run figuresOf certificateOf certificate ascii digitsBefore decimal inFront linesOf fieldsOf held numberFrom numberIn rowFrom rowIn names sameBytes hold withRow rowsFrom headed textOf judged tableFrom inRowsPlace onCores readText lineOf allNames certifiedLine certifiedLines certifiedText
+unfolding row underHeader textOfSheetFour passes sameList isSet isTable upFrom keep sum every insert sort best rivals levels ceil demand load climb outcome onTime lastMultiple walk points slack floorDiv times quotient bound pointAllowance allowance coreAllowance coreRows placeOnCore taken takes candidateAt takers chosenOf stepOf run figuresOf certificateOf certificate ascii digitsBefore decimal inFront linesOf fieldsOf held numberFrom numberIn rowFrom rowIn names sameBytes hold withRow rowsFrom headed textOf judged tableFrom inRowsPlace onCores readText joined lineOf allNames certifiedLine certifiedLines certifiedText
 known = (tt, tt, tt, tt, tt, tt, tt)
 
 -- what they are as texts
@@ -75,10 +77,6 @@ texts = (refl, refl, refl, refl, refl)
 -- a lent byte string that is long enough
 abbrev lent : List ℕ
 lent = replicate 100 0
-
--- two that are returned with different numbers
-told-apart : {X : Type 0} {number other row other-row : ℕ} → returned number row ≡ returned other other-row → (number ≡ other → ⊥) → X
-told-apart same differ = absurd (differ (ap (λ (r : Returned). r .number) same))
 
 -- a version of the certificate of a text that keeps its promise on all cores, texts and lent bytes
 module _ (answer : ℕ → List ℕ → List ℕ → Returned) (written : ℕ → List ℕ → List ℕ → ℕ) (after : ℕ → List ℕ → List ℕ → List ℕ)
@@ -98,7 +96,7 @@ module _ (answer : ℕ → List ℕ → List ℕ → Returned) (written : ℕ �
   unfolding row ascii
   numbers-modulo-2^32-are-shut-out modulo =
       let same = modulo 1 beyond fives lent (row 4294967301 5 5 ∷ []) (texts .1) (texts .0) in
-      told-apart (sym (on-refused 1 beyond 4 1 (known .2) lent) ∙ same ∙ on-accepted 1 fives fivesWritten (known .0) lent (omega arith)) (omega arith)
+      numbers-differ (sym (on-refused 1 beyond 4 1 (known .2) lent) ∙ same ∙ on-accepted 1 fives fivesWritten (known .0) lent (omega arith)) (omega arith)
 
   -- a limit that is broken in front of a line that is not of the form
   pub stopping-at-the-first-fault-is-shut-out :
@@ -106,7 +104,7 @@ module _ (answer : ℕ → List ℕ → List ℕ → Returned) (written : ℕ �
   unfolding underHeader ascii
   stopping-at-the-first-fault-is-shut-out stops =
       let same = stops 1 1 (underHeader (ascii "2,1,1\n")) (ascii "1,1\n") lent (underHeader (ascii "2,1,1"), refl) (texts .3) in
-      told-apart (sym same ∙ on-refused 1 (underHeader (ascii "2,1,1\n1,1\n")) 9 3 (known .3) lent) (omega arith)
+      numbers-differ (sym same ∙ on-refused 1 (underHeader (ascii "2,1,1\n1,1\n")) 9 3 (known .3) lent) (omega arith)
 
   pub leaving-out-the-header-is-shut-out : ((cores line : ℕ) (text bytes : List ℕ) → textOf text ≡ not-of-the-form (suc (suc line)) → answer cores text bytes ≡ returned 9 (suc line)) → ⊥
   leaving-out-the-header-is-shut-out leaves-out =
@@ -128,8 +126,8 @@ module _ (answer : ℕ → List ℕ → List ℕ → Returned) (written : ℕ �
   losing-the-last-line-is-shut-out loses =
       let own : (byte : ℕ) → 14 ≤ byte → InLine byte = λ byte large. record { no-LF = λ e. omega arith; no-CR = λ e. omega arith } in
       let same = loses 1 (underHeader []) (ascii "5,5,5") lent (ascii "wcet,deadline,period\r", refl) (own 53 (omega arith), (own 44 (omega arith), (own 53 (omega arith), (own 44 (omega arith), (own 53 (omega arith), tt))))) in
-      told-apart (sym (on-accepted 1 fives fivesWritten (known .0) lent (omega arith)) ∙ same ∙ on-refused 1 (underHeader []) 3 0 (known .5) lent) (omega arith)
+      numbers-differ (sym (on-accepted 1 fives fivesWritten (known .0) lent (omega arith)) ∙ same ∙ on-refused 1 (underHeader []) 3 0 (known .5) lent) (omega arith)
 
   -- with nothing lent, 7 for every table
   pub seven-before-six-is-shut-out : ((cores : ℕ) (text : List ℕ) (t : Table) → readText cores text ≡ table t → answer cores text [] ≡ returned 7 0) → ⊥
-  seven-before-six-is-shut-out seven = told-apart (sym (seven 2 textOfSheetFour sheetFour (texts .4)) ∙ on-refused 2 textOfSheetFour 6 5 (known .6) []) (omega arith)
+  seven-before-six-is-shut-out seven = numbers-differ (sym (seven 2 textOfSheetFour sheetFour (texts .4)) ∙ on-refused 2 textOfSheetFour 6 5 (known .6) []) (omega arith)

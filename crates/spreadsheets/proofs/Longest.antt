@@ -12,8 +12,7 @@ use Rattle.records.specs.Reading.{TableWithin, refused}
 use Rattle.records.proofs.Lengths.{table-bytes-length}
 use Rattle.texts.specs.Table.{readText}
 use Rattle.texts.specs.Columns.{certifiedText}
-use Rattle.texts.proofs.Reading.{read-text-within}
-use Rattle.texts.proofs.Refused.{text-refused}
+use Rattle.texts.proofs.Reading.{read-text-within, text-refused}
 use Rattle.texts.proofs.Longest.{certified-text-length}
 use Rattle.certifying.proofs.Small.{certified-digits}
 use Rattle.service.specs.Text.{TextAnswered, TextTabled}

@@ -1,10 +1,9 @@
 -- What the services on a text answer once it is read as a table: no core takes a row, the sheet is too long or is put into the lent bytes, and the table's bytes.
 use mathlib.Core.Path.{_≡_, sym, ap, subst, _∙_}
 use Prim.Native.Nat.{ℕ, _+_, _*_, _≤_, _<_}
-use mathlib.Core.List.{List, _++_}
-use native.Mathlib.Nat.{zero-add}
+use mathlib.Core.List.{List}
 use native.Mathlib.Omega.{arith}
-use lib.ListN.{length, take, drop}
+use lib.ListN.{length, take}
 use lib.Seq.{length-take-le}
 use Rattle.answers.specs.Answer.{returnedBy, numberOf}
 use Rattle.theory.specs.Returned.{returned}
@@ -20,6 +19,7 @@ use Rattle.reading.specs.Held.{heldTable}
 use Rattle.certificates.specs.declared.Certificate.{Certificate}
 use Rattle.certificates.specs.Held.{IsHeld, heldFigures}
 use Rattle.certifying.proofs.Stages.{TableRead, FiguresHeld, was-stopped}
+use Rattle.numbers.proofs.Written.{written, written-from-front}
 use Rattle.service.specs.Text.{TextAnswered, TextTabled}
 
 module _ (cores : ℕ) (text lent : List ℕ) {read : Read} (table-read : TableRead (readText cores text) read) where
@@ -37,21 +37,21 @@ module _ (cores : ℕ) (text lent : List ℕ) {read : Read} (table-read : TableR
       abbrev all : List Figures
       all = heldFigures (read .n) certificate
 
-      abbrev written : List ℕ
-      written = certifiedText (heldTable read .rows) all
+      abbrev columns : List ℕ
+      columns = certifiedText (heldTable read .rows) all
 
-      as-long : length written ≡ n
+      as-long : length columns ≡ n
       as-long = ap length (sym is-sheet) ∙ length-take-le n sheet inside
 
       pub sheet-too-long : length lent < n → TextAnswered allowanceFit cores text lent (returned 7 0) 0 lent
       sheet-too-long short = TextAnswered.output-too-short (heldTable read) all (table-read .is-table) (figures .is-certified) (omega (arith, as-long))
 
-      pub sheet-put : (after : List ℕ) → n ≤ length lent → after ≡ take 0 lent ++ take n sheet ++ drop (0 + length (take n sheet)) lent
+      pub sheet-put : (after : List ℕ) → n ≤ length lent → after ≡ written lent 0 (take n sheet)
           → TextAnswered allowanceFit cores text lent (returned 0 0) n after
       sheet-put after fits put =
-          let in-front : after ≡ filled written lent = put ∙ ap (λ (k : ℕ). take n sheet ++ drop k lent) (zero-add (length (take n sheet))) ∙ ap (λ (part : List ℕ). filled part lent) is-sheet in
+          let in-front : after ≡ filled columns lent = put ∙ written-from-front lent (take n sheet) ∙ ap (λ (part : List ℕ). filled part lent) is-sheet in
           subst (λ (bytes : List ℕ). TextAnswered allowanceFit cores text lent (returned 0 0) n bytes) (sym in-front)
-          (subst (λ (k : ℕ). TextAnswered allowanceFit cores text lent (returned 0 0) k (filled written lent)) as-long
+          (subst (λ (k : ℕ). TextAnswered allowanceFit cores text lent (returned 0 0) k (filled columns lent)) as-long
           (TextAnswered.accepted (heldTable read) all (table-read .is-table) (figures .is-certified) (omega (arith, as-long))))
 
   -- the table's bytes, 4 and 13 for each row

@@ -5,22 +5,21 @@ use mathlib.Core.List.{List, [], _∷_, _++_, flatMap, append-assoc}
 use native.Mathlib.Omega.{arith}
 use lib.ListN.{length, take, drop}
 use lib.Seq.{take-at}
-use Rattle.theory.specs.Returned.{Returned, returned}
+use Rattle.theory.specs.Returned.{returned}
 use Rattle.theory.specs.Row.{Row}
-use Rattle.theory.specs.Lists.{filled}
 use Rattle.placement.specs.Core.{Table}
 use Rattle.placement.specs.Choice.{Rule}
-use Rattle.placement.specs.Figures.{Figures, Certified}
+use Rattle.placement.specs.Figures.{Figures}
 use Rattle.records.specs.Number.{fourBytes}
-use Rattle.records.specs.Reading.{TableWithin, readTable, table}
+use Rattle.records.specs.Reading.{TableWithin}
 use Rattle.records.specs.Report.{rowRecord, figuresRecord, countRecord, tableRecords, reportBytes}
 use Rattle.records.proofs.Reading.{read-table-within}
-use Rattle.records.proofs.Refused.{refused-from-1-to-5}
 use Rattle.records.proofs.Lengths.{report-length}
 use Rattle.records.proofs.Report.{report-determines-table}
 use Rattle.records.proofs.ReportFigures.{report-determines-figures}
 use Rattle.certifying.proofs.Small.{certified-fit}
 use Rattle.service.specs.Table.{TableAnswered}
+use Rattle.service.proofs.Accepted.{ReportOf, accepted-report}
 
 -- kind 2 records before a kind 3 are of one number of rows: the kind tells where they end
 rows-counted : (rows others : List Row) (x y : List ℕ) → flatMap rowRecord rows ++ (3 ∷ x) ≡ flatMap rowRecord others ++ (3 ∷ y) → length rows ≡ length others
@@ -42,22 +41,6 @@ same-count t u (x ∷ xs) (y ∷ ys) kept lent some others-some same =
     (sym (append-assoc (flatMap rowRecord (t .rows)) (flatMap figuresRecord (x ∷ xs) ++ countRecord (t .rows)) kept)
     ∙ ap (drop 2) same
     ∙ append-assoc (flatMap rowRecord (u .rows)) (flatMap figuresRecord (y ∷ ys) ++ countRecord (u .rows)) lent)
-
--- what an accepted call says: a table and its figures, of which it leaves the report
-pub record ReportOf (rule : Rule) (bytes report after : List ℕ) : Type 0 where
-  pub of-table : Table
-  pub figures : List Figures
-  pub is-table : readTable bytes ≡ table of-table
-  pub is-certified : Certified rule of-table figures
-  pub is-report : after ≡ filled (reportBytes of-table figures) report
-
--- each accepted call says that of one table and its figures
-pub accepted-report : {rule : Rule} {bytes report : List ℕ} {returns : Returned} {after : List ℕ} → TableAnswered rule bytes report returns after → returns ≡ returned 0 0 → ReportOf rule bytes report after
-accepted-report (TableAnswered.not-a-table number row refused) accepted = absurd (let z : number ≡ 0 = ap (λ (r : Returned). r .number) accepted in omega (arith, refused-from-1-to-5 _ number row refused))
-accepted-report (TableAnswered.output-too-short t reads short) accepted = absurd (let z : _≡_ {A = ℕ} 7 0 = ap (λ (r : Returned). r .number) accepted in omega arith)
-accepted-report (TableAnswered.no-core-takes t i reads long stopped) accepted = absurd (let z : _≡_ {A = ℕ} 6 0 = ap (λ (r : Returned). r .number) accepted in omega arith)
-accepted-report (TableAnswered.accepted t all reads long is-certified) accepted =
-    record { of-table = t; figures = all; is-table = reads; is-certified = is-certified; is-report = refl }
 
 -- two accepted calls, whatever was lent, that leave the same bytes
 module _ {rule : Rule} {bytes others report lent after : List ℕ} (first : ReportOf rule bytes report after) (second : ReportOf rule others lent after) where

@@ -1,22 +1,15 @@
 -- A text is what its fields hold: where two texts have as many lines, these as many fields, and each two hold the same bytes or the same number, they are the same.
 use mathlib.Core.Path.{_≡_, refl, sym, ap, _∙_}
 use Prim.Native.Nat.{ℕ, suc}
-use native.Mathlib.Omega.{arith}
 use mathlib.Core.Bool.{Bool, true, false}
 use mathlib.Core.List.{List, [], _∷_}
-use mathlib.Core.Option.{Option, none, some}
-use lib.Dec.{eqb}
-use borrow.Author.Tests.{eqb-true}
+use mathlib.Core.Option.{Option, none, some, Option·none-ne-some}
 use Rattle.theory.specs.Row.{Row}
-use Rattle.theory.proofs.Limits.{both-pass}
 use Rattle.listing.specs.Listing.{ascii}
 use Rattle.texts.specs.Text.{Text, fieldsOf, held, numberFrom, numberIn, rowIn, names, sameBytes, hold, withRow, rowsFrom, headed, not-of-the-form}
+use Rattle.texts.proofs.ThreeFields.{bytes-same, Pairwise, no-parts, two}
 
--- two lists of byte strings, each two of which are related
-pub data Pairwise (R : List ℕ → List ℕ → Type 0) : List (List ℕ) → List (List ℕ) → Type 0 where
-  no-parts : Pairwise R [] []
-  two : {a b : List ℕ} {parts others : List (List ℕ)} → R a b → Pairwise R parts others → Pairwise R (a ∷ parts) (b ∷ others)
-
+-- each is related to itself
 pub each-alike : (R : List ℕ → List ℕ → Type 0) → ((a : List ℕ) → R a a) → (parts : List (List ℕ)) → Pairwise R parts parts
 each-alike R alike [] = no-parts
 each-alike R alike (part ∷ parts) = two (alike part) (each-alike R alike parts)
@@ -59,24 +52,12 @@ names-no-numbers : NoNumbers names
 unfolding names ascii numberIn numberFrom
 names-no-numbers = (refl, (refl, (refl, tt)))
 
--- bytes that pass for the same are
-pub passed-same : (bytes others : List ℕ) → sameBytes bytes others ≡ true → bytes ≡ others
-unfolding sameBytes
-passed-same [] [] passes = refl
-passed-same [] (other ∷ others) passes = absurd (let z : _≡_ {A = ℕ} 0 1 = cc in omega arith)
-passed-same (byte ∷ bytes) [] passes = absurd (let z : _≡_ {A = ℕ} 0 1 = cc in omega arith)
-passed-same (byte ∷ bytes) (other ∷ others) passes =
-    let both = both-pass (eqb byte other) (sameBytes bytes others) passes in
-    let first = eqb-true byte other (both .0) in
-    let further = passed-same bytes others (both .1) in
-    cc
-
 -- a number is not a name that is none
 number-no-name : (content name : List ℕ) (n : ℕ) → numberIn content ≡ some n → numberIn name ≡ none → sameBytes content name ≡ false
 number-no-name content name n is-n no-number = go (sameBytes content name) refl
   where
     go : (same : Bool) → sameBytes content name ≡ same → same ≡ false
-    go true same = absurd (let equal = passed-same content name same in let z : _≡_ {A = ℕ} 0 1 = cc in omega arith)
+    go true same = absurd (Option·none-ne-some n (sym no-number ∙ ap numberIn (sym (bytes-same content name same)) ∙ is-n))
     go false same = refl
 
 -- so they hold the same of such names

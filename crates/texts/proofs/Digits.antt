@@ -32,11 +32,6 @@ unfolding decimalFrom
 zeros-same zero digits = refl
 zeros-same (suc zeros) digits = zeros-same zeros digits
 
--- digits, one or more, are the number that they are
-pub some-digits : (digits : List ℕ) → All IsDigit digits → 1 ≤ length digits → numberIn digits ≡ some (decimalFrom 0 digits)
-some-digits [] are-digits one = absurd (omega arith)
-some-digits (digit ∷ digits) are-digits one = digits-number digit digits are-digits
-
 -- as many as there are behind zeros, or more
 pub zeros-longer : (zeros : ℕ) (digits : List ℕ) → length digits ≤ length (replicate zeros digitZero ++ digits)
 zeros-longer zero digits = omega arith
@@ -46,7 +41,7 @@ zeros-longer (suc zeros) digits = omega (arith, zeros-longer zeros digits)
 pub zeros-read : (zeros : ℕ) (digits : List ℕ) → All IsDigit digits → 1 ≤ length digits
     → numberIn (replicate zeros digitZero ++ digits) ≡ some (decimalFrom 0 digits)
 zeros-read zeros digits are-digits one =
-    some-digits (replicate zeros digitZero ++ digits) (zeros-digits zeros digits are-digits) (omega (arith, zeros-longer zeros digits)) ∙ ap some (zeros-same zeros digits)
+    digits-number (replicate zeros digitZero ++ digits) (zeros-digits zeros digits are-digits) (omega (arith, zeros-longer zeros digits)) ∙ ap some (zeros-same zeros digits)
 
 -- the digits of a number behind zeros are that number
 pub decimal-read : (zeros n : ℕ) → numberIn (replicate zeros digitZero ++ decimal n) ≡ some n

@@ -8,12 +8,15 @@ use lib.ListN.{length, replicate}
 use Rattle.theory.specs.Gather.{All}
 use Rattle.listing.proofs.Decimal.{decimalFrom, IsDigit}
 use Rattle.texts.specs.Text.{LF, quote, comma, beginsWith, linesOf, fieldsOf, numberIn, textOf}
-use Rattle.texts.specs.Rest.{firstPart, restOfLine, linesBehind, restOfField, fieldsBehind}
+use Rattle.texts.specs.Rest.{restOfLine, linesBehind, restOfField, fieldsBehind}
 use Rattle.texts.specs.Forms.{digitZero, FieldOf, plain, quoted, LineEnd, LF-alone, CR-LF}
-use Rattle.texts.proofs.Lines.{Ordinary, some-line, line-goes-on, ordinary-in-field}
-use Rattle.texts.proofs.Digits.{zeros-digits, zeros-longer, some-digits, zeros-read}
-use Rattle.texts.proofs.Fields.{field-holds, field-ordinary, field-longer, digits-ordinary, digits-no-quote}
-use Rattle.texts.proofs.Alike.{Pairwise, Alike, same-content, same-number, AlikeLines, alike-itself, line-alike-itself, each-alike, alike-headed}
+use Rattle.texts.proofs.Lines.{Ordinary, plain-ordinary, some-line, comma-ends-field, ordinary-in-field}
+use Rattle.texts.proofs.Digits.{zeros-digits, zeros-longer, zeros-read}
+use Rattle.texts.proofs.Fields.{field-holds, field-ordinary, field-longer, digits-plain}
+use Rattle.texts.proofs.Numbers.{digits-number}
+use Rattle.texts.proofs.Held.{plain-begins}
+use Rattle.texts.proofs.ThreeFields.{Pairwise}
+use Rattle.texts.proofs.Alike.{Alike, same-content, same-number, AlikeLines, alike-itself, line-alike-itself, each-alike, alike-headed}
 use Rattle.texts.proofs.Starts.{Start, all-alike, empty-in-front, comma-in-front, same-behind}
 
 -- a field begins behind a text: it is empty, or ends in a comma or in a line end
@@ -32,7 +35,7 @@ pub data FieldEnds : List ℕ → Type 0 where
 field-ended : {behind : List ℕ} → FieldEnds behind → restOfField behind ≡ []
 unfolding linesOf fieldsOf
 field-ended at-the-end = refl
-field-ended (before-comma behind) = ap (λ line. firstPart (fieldsOf line)) (line-goes-on comma behind (omega arith) (λ is-CR. absurd (omega arith)))
+field-ended (before-comma behind) = comma-ends-field behind
 field-ended (before-line-end behind LF-alone) = refl
 field-ended (before-line-end behind CR-LF) = refl
 
@@ -94,17 +97,18 @@ pub zeros-change-nothing :
     → textOf (front ++ (field ++ behind)) ≡ textOf (front ++ (other ++ behind))
 zeros-change-nothing zeros digits begins ends are-digits not-empty form other-form =
     let longer = replicate zeros digitZero ++ digits in
-    let longer-digits = zeros-digits zeros digits are-digits in
+    let plain-digits = digits-plain digits are-digits in
+    let plain-longer = digits-plain longer (zeros-digits zeros digits are-digits) in
     let length-longer = zeros-longer zeros digits in
     field-changes-nothing
     (record {
-      own = field-ordinary (digits-ordinary digits are-digits) form;
-      own-other = field-ordinary (digits-ordinary longer longer-digits) other-form;
+      own = field-ordinary (plain-ordinary digits plain-digits) form;
+      own-other = field-ordinary (plain-ordinary longer plain-longer) other-form;
       not-empty = omega (arith, field-longer form);
       other-not-empty = omega (arith, field-longer other-form);
       alike =
           same-number (decimalFrom 0 digits)
-          (ap numberIn (field-holds (digits-no-quote digits are-digits) form) ∙ some-digits digits are-digits not-empty)
-          (ap numberIn (field-holds (digits-no-quote longer longer-digits) other-form) ∙ zeros-read zeros digits are-digits not-empty);
+          (ap numberIn (field-holds (plain-begins digits plain-digits) form) ∙ digits-number digits are-digits not-empty)
+          (ap numberIn (field-holds (plain-begins longer plain-longer) other-form) ∙ zeros-read zeros digits are-digits not-empty);
     })
     ends begins

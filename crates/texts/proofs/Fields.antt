@@ -1,20 +1,20 @@
 -- What a field of a form holds, and that its bytes are a field's own.
-use mathlib.Core.Path.{_≡_, refl, ap, _∙_}
+use mathlib.Core.Path.{_≡_, ap, _∙_}
 use Prim.Native.Nat.{ℕ, _≤_}
 use native.Mathlib.Omega.{arith}
 use mathlib.Core.Bool.{false}
 use mathlib.Core.List.{List, [], _∷_, _++_}
 use mathlib.Core.Option.{some}
 use lib.ListN.{length, replicate, length-append}
-use borrow.Author.Tests.{ne-eqb}
 use Rattle.theory.specs.Gather.{All}
 use Rattle.theory.proofs.Each.{all-map, all-append}
 use Rattle.listing.specs.Listing.{decimal}
 use Rattle.listing.proofs.Decimal.{IsDigit}
 use Rattle.texts.specs.Text.{quote, beginsWith, held, numberIn}
+use Rattle.texts.specs.Rest.{Plain}
 use Rattle.texts.specs.Forms.{digitZero, FieldOf, plain, quoted, NumberField, digits}
-use Rattle.texts.proofs.Lines.{Ordinary}
-use Rattle.texts.proofs.Held.{held-plain, held-quoted}
+use Rattle.texts.proofs.Lines.{Ordinary, plain-ordinary, quote-ordinary}
+use Rattle.texts.proofs.Held.{held-plain, held-quoted, plain-begins}
 use Rattle.texts.proofs.Digits.{decimal-digits, zeros-digits, decimal-read}
 
 -- a field holds what it is of, where that does not begin with a quote
@@ -22,11 +22,7 @@ pub field-holds : {content field : List ℕ} → beginsWith quote content ≡ fa
 field-holds {content} no-quote plain = held-plain content no-quote
 field-holds {content} no-quote quoted = held-quoted content
 
--- a quote is a field's own
-pub quote-ordinary : Ordinary quote
-quote-ordinary = record { no-LF = omega arith; no-CR = omega arith; no-comma = omega arith }
-
--- so are the bytes of a field whose content's are
+-- the bytes of a field are a field's own where its content's are
 pub field-ordinary : {content field : List ℕ} → All Ordinary content → FieldOf content field → All Ordinary field
 field-ordinary own plain = own
 field-ordinary {content} own quoted = (quote-ordinary, all-append Ordinary content (quote ∷ []) own (quote-ordinary, tt))
@@ -36,20 +32,17 @@ pub field-longer : {content field : List ℕ} → FieldOf content field → leng
 field-longer plain = omega arith
 field-longer {content} quoted = omega (arith, length-append content (quote ∷ []))
 
--- a digit is a field's own
-pub digits-ordinary : (bytes : List ℕ) → All IsDigit bytes → All Ordinary bytes
-digits-ordinary bytes are-digits =
-    all-map bytes (λ byte digit. record { no-LF = λ e. omega (arith, digit .from-zero); no-CR = λ e. omega (arith, digit .from-zero); no-comma = λ e. omega (arith, digit .from-zero) }) are-digits
+-- digits are plain
+pub digits-plain : (bytes : List ℕ) → All IsDigit bytes → All Plain bytes
+digits-plain bytes = all-map bytes (λ byte digit. omega (arith, digit .from-zero))
 
--- and no quote
-pub digits-no-quote : (bytes : List ℕ) → All IsDigit bytes → beginsWith quote bytes ≡ false
-digits-no-quote [] are-digits = refl
-digits-no-quote (byte ∷ bytes) are-digits = ne-eqb byte quote (λ e. omega (arith, are-digits .0 .from-zero))
+-- so are the digits of a number behind zeros
+number-plain : (zeros n : ℕ) → All Plain (replicate zeros digitZero ++ decimal n)
+number-plain zeros n = digits-plain (replicate zeros digitZero ++ decimal n) (zeros-digits zeros (decimal n) (decimal-digits n))
 
 -- THE FIELD OF A NUMBER HOLDS IT
 pub number-field-read : {n : ℕ} {field : List ℕ} → NumberField n field → numberIn (held field) ≡ some n
-number-field-read {n} (digits zeros form) =
-    ap numberIn (field-holds (digits-no-quote (replicate zeros digitZero ++ decimal n) (zeros-digits zeros (decimal n) (decimal-digits n))) form) ∙ decimal-read zeros n
+number-field-read {n} (digits zeros form) = ap numberIn (field-holds (plain-begins (replicate zeros digitZero ++ decimal n) (number-plain zeros n)) form) ∙ decimal-read zeros n
 
 pub number-field-ordinary : {n : ℕ} {field : List ℕ} → NumberField n field → All Ordinary field
-number-field-ordinary {n} (digits zeros form) = field-ordinary (digits-ordinary (replicate zeros digitZero ++ decimal n) (zeros-digits zeros (decimal n) (decimal-digits n))) form
+number-field-ordinary {n} (digits zeros form) = field-ordinary (plain-ordinary (replicate zeros digitZero ++ decimal n) (number-plain zeros n)) form

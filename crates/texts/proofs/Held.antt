@@ -7,9 +7,10 @@ use mathlib.Core.List.{List, [], _∷_, _++_, append-nil}
 use lib.Dec.{eqb}
 use lib.ListN.{length, getD, take, length-append}
 use lib.Seq.{take-append-seam, take-append-add, getD-append-seam}
-use borrow.Author.Tests.{eqb-true, eqb-false}
+use borrow.Author.Tests.{eqb-true, eqb-false, ne-eqb}
 use Rattle.theory.specs.Gather.{All}
 use Rattle.texts.specs.Text.{quote, beginsWith, held}
+use Rattle.texts.specs.Rest.{Plain}
 
 -- a field that does not begin with a quote holds all of itself
 pub held-plain : (field : List ℕ) → beginsWith quote field ≡ false → held field ≡ field
@@ -42,17 +43,18 @@ held-quoted content =
     (λ ends. rw last (take-append-seam content (quote ∷ [])))
     (λ not-closed. absurd (not-closed (rw last (getD-append-seam content quote [] 0))))
 
--- no byte is a quote
-abbrev pub NoQuote : List ℕ → Type 0
-NoQuote bytes = All (λ byte. byte ≡ quote → ⊥) bytes
+-- plain bytes do not begin with a quote, and have none at any place
+pub plain-begins : (bytes : List ℕ) → All Plain bytes → beginsWith quote bytes ≡ false
+plain-begins [] plain = refl
+plain-begins (byte ∷ bytes) plain = ne-eqb byte quote (λ is-quote. omega (arith, plain .0))
 
-no-quote-at : (bytes : List ℕ) → NoQuote bytes → (k : ℕ) → getD bytes k 0 ≡ quote → ⊥
-no-quote-at [] none k is-quote = omega arith
-no-quote-at (byte ∷ bytes) none zero is-quote = none .0 is-quote
-no-quote-at (byte ∷ bytes) none (suc k) is-quote = no-quote-at bytes (none .1) k is-quote
+no-quote-at : (bytes : List ℕ) → All Plain bytes → (k : ℕ) → getD bytes k 0 ≡ quote → ⊥
+no-quote-at [] plain k is-quote = omega arith
+no-quote-at (byte ∷ bytes) plain zero is-quote = omega (arith, plain .0)
+no-quote-at (byte ∷ bytes) plain (suc k) is-quote = no-quote-at bytes (plain .1) k is-quote
 
 -- a field is asked whether what it holds is right, and nothing with a quote in it is; right bytes, where the next one makes them wrong
-module _ (Right : List ℕ → Type 0) (no-quote : (front behind : List ℕ) → Right (front ++ (quote ∷ behind)) → ⊥) (bytes : List ℕ) (plain : NoQuote bytes) where
+module _ (Right : List ℕ → Type 0) (no-quote : (front behind : List ℕ) → Right (front ++ (quote ∷ behind)) → ⊥) (bytes : List ℕ) (plain : All Plain bytes) where
   -- a plain field that holds the right ends where they do
   pub plain-right :
       (rest : List ℕ) → ((byte : ℕ) (others more : List ℕ) → rest ≡ byte ∷ others → Right (bytes ++ (byte ∷ more)) → ⊥) → beginsWith quote (bytes ++ rest) ≡ false

@@ -1,5 +1,5 @@
 -- Fields with commas between them are a line, and its fields; a line that is written, and its first three columns.
-use mathlib.Core.Path.{_≡_, refl, ap, _∙_}
+use mathlib.Core.Path.{_≡_, ap, _∙_}
 use Prim.Native.Nat.{ℕ}
 use native.Mathlib.Omega.{arith}
 use mathlib.Core.List.{List, [], _∷_, _++_, flatMap, append-assoc}
@@ -8,15 +8,9 @@ use Rattle.theory.specs.Gather.{All}
 use Rattle.theory.proofs.Each.{all-append}
 use Rattle.texts.specs.Text.{LF, CR, comma, linesOf, fieldsOf}
 use Rattle.texts.specs.Columns.{lineOf, firstColumns}
-use Rattle.texts.specs.Forms.{threeFields, CR-LF}
+use Rattle.texts.specs.Forms.{joined, CR-LF}
 use Rattle.texts.proofs.Lines.{Ordinary}
 use Rattle.texts.proofs.Whole.{InLine, field-in-line, ended-line-in-front, field-in-front, last-field}
-
--- fields with commas between them
-unfoldable pub joined : List (List ℕ) → List ℕ
-joined [] = []
-joined (field ∷ []) = field
-joined (field ∷ (next ∷ fields)) = field ++ (comma ∷ joined (next ∷ fields))
 
 -- the bytes of each are a field's own
 abbrev pub OrdinaryFields : List (List ℕ) → Type 0
@@ -24,7 +18,7 @@ OrdinaryFields [] = Unit {0}
 OrdinaryFields (field ∷ fields) = All Ordinary field × OrdinaryFields fields
 
 -- then those of the line are a line's own
-joined-in-line : (fields : List (List ℕ)) → OrdinaryFields fields → All InLine (joined fields)
+pub joined-in-line : (fields : List (List ℕ)) → OrdinaryFields fields → All InLine (joined fields)
 unfolding joined
 joined-in-line [] own = tt
 joined-in-line (field ∷ []) own = field-in-line field (own .0)
@@ -37,21 +31,14 @@ unfolding joined
 joined-read field [] own = last-field field (own .0)
 joined-read field (next ∷ fields) own = field-in-front field (joined (next ∷ fields)) (own .0) ∙ ap (λ others. field ∷ others) (joined-read next fields (own .1))
 
--- a line that is written is its fields, and CR LF
-line-of : (fields : List (List ℕ)) → lineOf fields ≡ joined fields ++ (CR ∷ (LF ∷ []))
-unfolding lineOf joined
-line-of [] = refl
-line-of (field ∷ []) = refl
-line-of (field ∷ (next ∷ fields)) = rw (line-of (next ∷ fields), append-assoc)
-
--- three fields, CR LF and others
-pub three-line : (first second third text : List ℕ) → lineOf (first ∷ (second ∷ (third ∷ []))) ++ text ≡ threeFields first second third ++ (CR ∷ (LF ∷ text))
+-- a line that is written, and others: its fields, CR LF and those
+pub line-of : (fields : List (List ℕ)) (text : List ℕ) → lineOf fields ++ text ≡ joined fields ++ (CR ∷ (LF ∷ text))
 unfolding lineOf
-three-line first second third text = simp append-assoc
+line-of fields text = append-assoc (joined fields) (CR ∷ (LF ∷ [])) text
 
 -- the lines of a text with such a line in front
 pub line-of-read : (fields : List (List ℕ)) (text : List ℕ) → OrdinaryFields fields → linesOf (lineOf fields ++ text) ≡ joined fields ∷ linesOf text
-line-of-read fields text own = rw (line-of fields, append-assoc) (ended-line-in-front (joined fields) text (joined-in-line fields own) CR-LF)
+line-of-read fields text own = ap linesOf (line-of fields text) ∙ ended-line-in-front (joined fields) text (joined-in-line fields own) CR-LF
 
 -- and its first three columns
 pub first-columns-line : (field : List ℕ) (fields : List (List ℕ)) (text : List ℕ) → OrdinaryFields (field ∷ fields)

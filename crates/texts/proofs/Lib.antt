@@ -12,8 +12,8 @@ pub mod Parted
 pub mod Zeros
 pub mod ReadForms
 pub mod RoundTrip
+pub mod Judged
 pub mod Reading
-pub mod Refused
 pub mod Ends
 pub mod Alike
 pub mod Starts

@@ -1,22 +1,30 @@
 -- Lines and fields, read from the front: what a byte does to the rest of its field, of its line and of the text.
 use mathlib.Core.Path.{_≡_, refl, sym, ap, _∙_}
-use Prim.Native.Nat.{ℕ, suc}
+use Prim.Native.Nat.{ℕ}
 use native.Mathlib.Omega.{arith}
-use mathlib.Core.Bool.{Bool, true, false, _&&_}
-use mathlib.Core.List.{List, [], _∷_, _++_}
+use mathlib.Core.Bool.{Bool, true, false, _&&_, true≢false}
+use mathlib.Core.List.{List, [], _∷_, _++_, nil≢cons, cons≢nil}
 use lib.Dec.{eqb}
-use lib.ListN.{length, getD}
+use lib.ListN.{getD}
 use borrow.Author.Tests.{eqb-true, eqb-false, ne-eqb}
 use Rattle.theory.specs.Gather.{All}
-use Rattle.theory.proofs.Each.{T-true, T-false}
-use Rattle.texts.specs.Text.{LF, CR, comma, beginsWith, inFront, linesOf, fieldsOf}
-use Rattle.texts.specs.Rest.{firstPart, otherParts, restOfLine, linesBehind, restOfField, fieldsBehind}
+use Rattle.theory.proofs.Each.{all-map}
+use Rattle.texts.specs.Text.{LF, CR, quote, comma, beginsWith, inFront, linesOf, fieldsOf}
+use Rattle.texts.specs.Rest.{firstPart, otherParts, restOfLine, linesBehind, restOfField, fieldsBehind, Plain}
 
 -- a byte that is a field's own: no line end and no comma
 pub record Ordinary (byte : ℕ) : Type 0 where
   pub no-LF : byte ≡ LF → ⊥
   pub no-CR : byte ≡ CR → ⊥
   pub no-comma : byte ≡ comma → ⊥
+
+-- plain bytes are
+pub plain-ordinary : (bytes : List ℕ) → All Plain bytes → All Ordinary bytes
+plain-ordinary bytes = all-map bytes (λ byte plain. record { no-LF = λ same. omega arith; no-CR = λ same. omega arith; no-comma = λ same. omega arith })
+
+-- so is a quote
+pub quote-ordinary : Ordinary quote
+quote-ordinary = record { no-LF = λ same. omega arith; no-CR = λ same. omega arith; no-comma = λ same. omega arith }
 
 -- a byte in front of the first part leaves the others
 pub first-in-front : (byte : ℕ) (parts : List (List ℕ)) → firstPart (inFront byte parts) ≡ byte ∷ firstPart parts
@@ -30,13 +38,13 @@ others-in-front byte [] = refl
 others-in-front byte (part ∷ parts) = refl
 
 -- there is a first part
-abbrev Parted : List (List ℕ) → Type 0
-Parted parts = parts ≡ firstPart parts ∷ otherParts parts
+abbrev SomeFirst : List (List ℕ) → Type 0
+SomeFirst parts = parts ≡ firstPart parts ∷ otherParts parts
 
-in-front-parted : (byte : ℕ) (parts : List (List ℕ)) → Parted (inFront byte parts)
+some-in-front : (byte : ℕ) (parts : List (List ℕ)) → SomeFirst (inFront byte parts)
 unfolding inFront
-in-front-parted byte [] = refl
-in-front-parted byte (part ∷ parts) = refl
+some-in-front byte [] = refl
+some-in-front byte (part ∷ parts) = refl
 
 -- a byte that ends no line stays in its line
 pub stays-in-line : (byte : ℕ) (text : List ℕ) → (byte ≡ LF → ⊥) → (byte ≡ CR → beginsWith LF text ≡ false) → linesOf (byte ∷ text) ≡ inFront byte (linesOf text)
@@ -52,18 +60,18 @@ pub some-line : (byte : ℕ) (text : List ℕ) → linesOf (byte ∷ text) ≡ r
 unfolding linesOf
 some-line byte [] = go (eqb byte LF) (eqb byte CR)
   where
-    go : (is-LF is-CR : Bool) → Parted (elim is-LF [ true ↦ [] ∷ [] | false ↦ elim (is-CR && false) [ true ↦ [] | false ↦ inFront byte [] ] ])
+    go : (is-LF is-CR : Bool) → SomeFirst (elim is-LF [ true ↦ [] ∷ [] | false ↦ elim (is-CR && false) [ true ↦ [] | false ↦ inFront byte [] ] ])
     go true is-CR = refl
-    go false true = in-front-parted byte []
-    go false false = in-front-parted byte []
+    go false true = some-in-front byte []
+    go false false = some-in-front byte []
 some-line byte (next ∷ text) = go (eqb byte LF) (eqb byte CR && eqb next LF) (some-line next text)
   where
     go :
-        (is-LF ends : Bool) → Parted (linesOf (next ∷ text))
-        → Parted (elim is-LF [ true ↦ [] ∷ linesOf (next ∷ text) | false ↦ elim ends [ true ↦ linesOf (next ∷ text) | false ↦ inFront byte (linesOf (next ∷ text)) ] ])
+        (is-LF ends : Bool) → SomeFirst (linesOf (next ∷ text))
+        → SomeFirst (elim is-LF [ true ↦ [] ∷ linesOf (next ∷ text) | false ↦ elim ends [ true ↦ linesOf (next ∷ text) | false ↦ inFront byte (linesOf (next ∷ text)) ] ])
     go true ends others = refl
     go false true others = others
-    go false false others = in-front-parted byte (linesOf (next ∷ text))
+    go false false others = some-in-front byte (linesOf (next ∷ text))
 
 -- a line has a field
 pub some-field : (line : List ℕ) → fieldsOf line ≡ firstPart (fieldsOf line) ∷ otherParts (fieldsOf line)
@@ -71,9 +79,9 @@ unfolding fieldsOf
 some-field [] = refl
 some-field (byte ∷ line) = go (eqb byte comma)
   where
-    go : (is-comma : Bool) → Parted (elim is-comma [ true ↦ [] ∷ fieldsOf line | false ↦ inFront byte (fieldsOf line) ])
+    go : (is-comma : Bool) → SomeFirst (elim is-comma [ true ↦ [] ∷ fieldsOf line | false ↦ inFront byte (fieldsOf line) ])
     go true = refl
-    go false = in-front-parted byte (fieldsOf line)
+    go false = some-in-front byte (fieldsOf line)
 
 -- a byte that is no comma stays in its field
 pub stays-in-field : (byte : ℕ) (line : List ℕ) → (byte ≡ comma → ⊥) → fieldsOf (byte ∷ line) ≡ inFront byte (fieldsOf line)
@@ -105,7 +113,7 @@ pub data Next (text : List ℕ) : Type 0 where
 -- an LF ends the line
 LF-ends-line : (text : List ℕ) → beginsWith LF text ≡ true → restOfLine text ≡ []
 unfolding linesOf
-LF-ends-line [] begins = absurd (T-false false refl (T-true false begins))
+LF-ends-line [] begins = absurd (true≢false (sym begins))
 LF-ends-line (byte ∷ text) begins = rw (begins, linesOf)
 
 -- a CR before it belongs to the line's end
@@ -126,10 +134,6 @@ next-of (byte ∷ text) = go (eqb byte LF) refl (beginsWith LF text) refl
         ended : (ends : Bool) → eqb byte CR ≡ ends → Next (byte ∷ text)
         ended true ends = line-ends (ap (λ x. restOfLine (x ∷ text)) (eqb-true byte CR ends) ∙ ap firstPart (CR-before-LF text same) ∙ LF-ends-line text same)
         ended false ends = line-goes byte text refl (eqb-false byte LF is-LF) (λ is-CR. absurd (eqb-false byte CR ends is-CR))
-
--- no byte comes first in nothing
-nothing-begins : {byte : ℕ} {others : List ℕ} → _≡_ {A = List ℕ} [] (byte ∷ others) → ⊥
-nothing-begins {others = others} same = let z : 0 ≡ suc (length others) = ap length same in omega arith
 
 -- a comma ends its field, and the fields behind it are those of the rest of the line
 pub comma-ends-field : (text : List ℕ) → restOfField (comma ∷ text) ≡ []
@@ -157,11 +161,11 @@ unfolding fieldsOf
 first-of-field text byte others begins = go (next-of text)
   where
     go : Next text → (more : List ℕ) × (text ≡ byte ∷ more)
-    go (line-ends ended) = absurd (nothing-begins (sym (ap (λ line. firstPart (fieldsOf line)) ended) ∙ begins))
+    go (line-ends ended) = absurd (nil≢cons (sym (ap (λ line. firstPart (fieldsOf line)) ended) ∙ begins))
     go (line-goes first more is-text no-LF no-end) =
         let rest = sym (ap restOfField is-text) ∙ begins in
         byte-of-line ((more : List ℕ) × (text ≡ byte ∷ more)) first more no-LF no-end
-        (λ is-comma. absurd (nothing-begins (sym (comma-ends-field more) ∙ ap (λ x. restOfField (x ∷ more)) (sym is-comma) ∙ rest)))
+        (λ is-comma. absurd (nil≢cons (sym (comma-ends-field more) ∙ ap (λ x. restOfField (x ∷ more)) (sym is-comma) ∙ rest)))
         (λ other goes-on. (more, is-text ∙ ap (λ x. x ∷ more) (ap (λ field. getD field 0 0) (sym goes-on ∙ rest))))
 
 -- where a field has ended and no comma stands, there are no more fields
@@ -174,16 +178,14 @@ no-comma-no-fields text no-comma field-ended = go (next-of text)
     go (line-goes first more is-text no-LF no-end) =
         byte-of-line (fieldsBehind text ≡ []) first more no-LF no-end
         (λ is-comma. absurd (eqb-false first comma (ap (beginsWith comma) (sym is-text) ∙ no-comma) is-comma))
-        (λ other goes-on. absurd (nothing-begins (sym field-ended ∙ ap restOfField is-text ∙ goes-on)))
+        (λ other goes-on. absurd (nil≢cons (sym field-ended ∙ ap restOfField is-text ∙ goes-on)))
 
 -- where the line goes on, the field has not ended or there are more
 pub line-not-ended : (byte : ℕ) (text : List ℕ) → (byte ≡ LF → ⊥) → (byte ≡ CR → beginsWith LF text ≡ false) → restOfField (byte ∷ text) ≡ [] → fieldsBehind (byte ∷ text) ≡ [] → ⊥
 line-not-ended byte text no-LF no-end ended none =
     byte-of-line ⊥ byte text no-LF no-end
-    (λ is-comma.
-    let no-fields = sym (some-field (restOfLine text)) ∙ sym (fields-behind-comma text) ∙ ap (λ x. fieldsBehind (x ∷ text)) (sym is-comma) ∙ none in
-    let z : suc (length (otherParts (fieldsOf (restOfLine text)))) ≡ 0 = ap length no-fields in omega arith)
-    (λ other goes-on. nothing-begins (sym ended ∙ goes-on))
+    (λ is-comma. cons≢nil (sym (some-field (restOfLine text)) ∙ sym (fields-behind-comma text) ∙ ap (λ x. fieldsBehind (x ∷ text)) (sym is-comma) ∙ none))
+    (λ other goes-on. nil≢cons (sym ended ∙ goes-on))
 
 -- bytes that are a field's own, in front of a text: they are in front of the rest of its field, and nothing behind that changes
 pub record InField (bytes text : List ℕ) : Type 0 where

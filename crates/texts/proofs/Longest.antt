@@ -9,16 +9,17 @@ use Rattle.placement.specs.Figures.{Figures, figuresAt}
 use Rattle.listing.specs.Listing.{ascii}
 use Rattle.listing.proofs.Longest.{decimal-length, TenDigits}
 use Rattle.texts.specs.Text.{names}
+use Rattle.texts.specs.Forms.{joined}
 use Rattle.texts.specs.Columns.{lineOf, allNames, certifiedLine, certifiedLines, certifiedText}
 
 -- the header line is 46 bytes, its end counted
 pub header-length : length (lineOf allNames) ≡ 46
-unfolding lineOf allNames names ascii
+unfolding joined lineOf allNames names ascii
 header-length = refl
 
 -- the line of a row
 line-length : (row : Row) (figures : Figures) → WithinLimits row → TenDigits figures → length (certifiedLine row figures) ≤ 67
-unfolding certifiedLine lineOf
+unfolding certifiedLine joined lineOf
 line-length row figures within digits =
     simp length-append
     (omega (

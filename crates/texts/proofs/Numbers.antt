@@ -1,74 +1,76 @@
 -- The number that bytes are: where they are digits, and only there, and as large as it is.
-use mathlib.Core.Path.{_≡_, refl, sym, ap, _∙_}
-use Prim.Native.Nat.{ℕ, _+_, _-_, _*_}
+use mathlib.Core.Path.{_≡_, refl, sym, ap, subst, _∙_}
+use Prim.Native.Nat.{ℕ, _+_, _-_, _*_, _≤_}
 use native.Mathlib.Omega.{arith}
 use mathlib.Core.Bool.{Bool, true, false}
 use mathlib.Core.List.{List, [], _∷_, _++_, append-nil}
-use mathlib.Core.Option.{Option, none, some, IsSome, Option·some-injective, Option·none-ne-some}
-use lib.Dec.{leb, leb→le}
-use borrow.Author.Tests.{le-leb}
+use mathlib.Core.Option.{none, some, IsSome, Option·some-injective}
+use lib.Dec.{leb}
+use lib.ListN.{length}
+use borrow.Author.Tests.{le-leb, leb-true}
 use Rattle.theory.specs.Gather.{All}
-use Rattle.theory.proofs.Tests.{and-first, and-second}
-use Rattle.theory.proofs.Each.{T-true, all-append-split}
+use Rattle.theory.proofs.Limits.{both-pass}
+use Rattle.theory.proofs.Each.{all-append-split}
 use Rattle.listing.proofs.Decimal.{decimalFrom, IsDigit}
 use Rattle.texts.specs.Text.{quote, isDigit, numberFrom, numberIn}
+use Rattle.texts.specs.Rest.{IsNumber}
 
 -- a digit passes the test, and nothing else does
 pub digit-passes : (byte : ℕ) → IsDigit byte → isDigit byte ≡ true
 digit-passes byte digit = rw (le-leb 48 byte (digit .from-zero), le-leb byte 57 (digit .to-nine))
 
 pub passed-digit : (byte : ℕ) → isDigit byte ≡ true → IsDigit byte
-passed-digit byte passes =
-    let test = T-true (isDigit byte) passes in
-    record { from-zero = leb→le 48 byte (and-first (leb 48 byte) (leb byte 57) test); to-nine = leb→le byte 57 (and-second (leb 48 byte) (leb byte 57) test) }
+passed-digit byte passes = let both = both-pass (leb 48 byte) (leb byte 57) passes in record { from-zero = leb-true 48 byte (both .0); to-nine = leb-true byte 57 (both .1) }
 
 -- digits in front of bytes are in front of their number
-pub digits-in-front : (n : ℕ) (digits bytes : List ℕ) → All IsDigit digits → numberFrom n (digits ++ bytes) ≡ numberFrom (decimalFrom n digits) bytes
+digits-in-front : (n : ℕ) (digits bytes : List ℕ) → All IsDigit digits → numberFrom n (digits ++ bytes) ≡ numberFrom (decimalFrom n digits) bytes
 unfolding numberFrom decimalFrom
 digits-in-front n [] bytes are-digits = refl
 digits-in-front n (digit ∷ digits) bytes are-digits = rw (digit-passes digit (are-digits .0), numberFrom) (digits-in-front _ digits bytes (are-digits .1))
 
--- bytes behind those of a number go on with it
-pub number-goes-on : (n m : ℕ) (bytes others : List ℕ) → numberFrom n bytes ≡ some m → numberFrom n (bytes ++ others) ≡ numberFrom m others
-unfolding numberFrom
-number-goes-on n m [] others is-number = ap (λ so-far. numberFrom so-far others) (Option·some-injective n m is-number)
-number-goes-on n m (byte ∷ bytes) others is-number = go (isDigit byte) is-number (number-goes-on (n * 10 + (byte - 48)) m bytes others)
-  where
-    go :
-        (passes : Bool) → _≡_ {A = Option ℕ} (elim passes [ true ↦ numberFrom (n * 10 + (byte - 48)) bytes | false ↦ none ]) (some m)
-        → (numberFrom (n * 10 + (byte - 48)) bytes ≡ some m → numberFrom (n * 10 + (byte - 48)) (bytes ++ others) ≡ numberFrom m others)
-        → elim passes [ true ↦ numberFrom (n * 10 + (byte - 48)) (bytes ++ others) | false ↦ none ] ≡ numberFrom m others
-    go true is-number goes-on = goes-on is-number
-    go false is-number goes-on = absurd (Option·none-ne-some m is-number)
-
 -- the bytes of a number are digits
 pub number-of-digits : (n : ℕ) (bytes : List ℕ) → IsSome (numberFrom n bytes) → All IsDigit bytes
 unfolding numberFrom
-number-of-digits n [] some-number = tt
-number-of-digits n (byte ∷ bytes) some-number = go (isDigit byte) refl some-number (number-of-digits (n * 10 + (byte - 48)) bytes)
+number-of-digits n [] number = tt
+number-of-digits n (byte ∷ bytes) number = go (isDigit byte) refl number (number-of-digits (n * 10 + (byte - 48)) bytes)
   where
     go :
         (passes : Bool) → isDigit byte ≡ passes → IsSome {A = ℕ} (elim passes [ true ↦ numberFrom (n * 10 + (byte - 48)) bytes | false ↦ none ])
         → (IsSome (numberFrom (n * 10 + (byte - 48)) bytes) → All IsDigit bytes)
         → All IsDigit (byte ∷ bytes)
-    go true passes some-number others = (passed-digit byte passes, others some-number)
-    go false passes some-number others = absurd some-number
+    go true passes number others = (passed-digit byte passes, others number)
+    go false passes number others = absurd number
 
--- bytes that are a number
-abbrev pub IsNumber : List ℕ → Type 0
-IsNumber bytes = IsSome (numberIn bytes)
+-- digits are the number that they are
+digits-are : (n : ℕ) (digits : List ℕ) → All IsDigit digits → numberFrom n digits ≡ some (decimalFrom n digits)
+unfolding numberFrom
+digits-are n digits are-digits = ap (numberFrom n) (sym (append-nil digits)) ∙ digits-in-front n digits [] are-digits
 
--- digits, one or more, are one
-pub digits-number : (digit : ℕ) (digits : List ℕ) → All IsDigit (digit ∷ digits) → numberIn (digit ∷ digits) ≡ some (decimalFrom 0 (digit ∷ digits))
-unfolding numberIn numberFrom
-digits-number digit digits are-digits = ap (numberFrom 0) (sym (append-nil (digit ∷ digits))) ∙ digits-in-front 0 (digit ∷ digits) [] are-digits
+-- bytes behind those of a number go on with it
+pub number-goes-on : (n m : ℕ) (bytes others : List ℕ) → numberFrom n bytes ≡ some m → numberFrom n (bytes ++ others) ≡ numberFrom m others
+number-goes-on n m bytes others is-m =
+    let are-digits = number-of-digits n bytes (subst IsSome (sym is-m) tt) in
+    digits-in-front n bytes others are-digits ∙ ap (λ so-far. numberFrom so-far others) (Option·some-injective (decimalFrom n bytes) m (sym (digits-are n bytes are-digits) ∙ is-m))
+
+-- one byte or more: the number that they go on to from 0
+pub some-number : (bytes : List ℕ) → 1 ≤ length bytes → numberIn bytes ≡ numberFrom 0 bytes
+unfolding numberIn
+some-number [] some-byte = absurd (omega arith)
+some-number (byte ∷ bytes) some-byte = refl
+
+-- one digit or more
+pub digits-number : (digits : List ℕ) → All IsDigit digits → 1 ≤ length digits → numberIn digits ≡ some (decimalFrom 0 digits)
+digits-number digits are-digits some-digit = some-number digits some-digit ∙ digits-are 0 digits are-digits
+
+-- the bytes of a number are digits, one or more
+pub number-digits : (bytes : List ℕ) → IsNumber bytes → All IsDigit bytes × (1 ≤ length bytes)
+unfolding numberIn
+number-digits [] number = absurd number
+number-digits (byte ∷ bytes) number = (number-of-digits 0 (byte ∷ bytes) number, omega arith)
 
 -- bytes with one among them that is no digit are none
 pub no-number : (front : List ℕ) (byte : ℕ) (behind : List ℕ) → (IsDigit byte → ⊥) → IsNumber (front ++ (byte ∷ behind)) → ⊥
-unfolding numberIn
-no-number [] byte behind no-digit number = no-digit (number-of-digits 0 (byte ∷ behind) number .0)
-no-number (first ∷ front) byte behind no-digit number =
-    no-digit (all-append-split IsDigit (first ∷ front) (byte ∷ behind) (number-of-digits 0 (first ∷ (front ++ (byte ∷ behind))) number) .1 .0)
+no-number front byte behind no-digit number = no-digit (all-append-split IsDigit front (byte ∷ behind) (number-digits (front ++ (byte ∷ behind)) number .0) .1 .0)
 
 pub quote-in-no-number : (front behind : List ℕ) → IsNumber (front ++ (quote ∷ behind)) → ⊥
 quote-in-no-number front behind = no-number front quote behind (λ digit. omega (arith, digit .from-zero))

@@ -1,16 +1,14 @@
 -- A text is its first line, what ends it, and the text of the others; a line is its fields with commas between them.
 use mathlib.Core.Path.{_≡_, refl, sym, ap, subst, _∙_}
 use Prim.Native.Nat.{ℕ}
-use native.Mathlib.Omega.{arith}
-use mathlib.Core.Bool.{Bool, true, false, _&&_}
+use mathlib.Core.Bool.{Bool, true, false, _&&_, true≢false}
 use mathlib.Core.List.{List, [], _∷_, _++_}
 use lib.Dec.{eqb}
 use borrow.Author.Tests.{eqb-true}
 use Rattle.theory.proofs.Limits.{both-pass}
 use Rattle.texts.specs.Text.{LF, CR, comma, beginsWith, inFront, linesOf, fieldsOf}
-use Rattle.texts.specs.Forms.{LF-alone, CR-LF, Behind, line-end, end-of-text}
+use Rattle.texts.specs.Forms.{joined, LF-alone, CR-LF, Behind, line-end, end-of-text}
 use Rattle.texts.proofs.Lines.{some-field}
-use Rattle.texts.proofs.Joined.{joined}
 
 -- a text whose lines are a first and others: the first, what stands behind it, and the text of the others
 pub record FirstLine (text line : List ℕ) (lines : List (List ℕ)) : Type 0 where
@@ -33,7 +31,7 @@ LF-parted byte text is-LF =
 -- a CR in front of one
 CR-LF-parted : (byte : ℕ) (text : List ℕ) → byte ≡ CR → beginsWith LF text ≡ true → Parted (byte ∷ text) (linesOf text)
 unfolding linesOf
-CR-LF-parted byte [] is-CR begins = absurd (let z : _≡_ {A = ℕ} 0 1 = cc in omega arith)
+CR-LF-parted byte [] is-CR begins = absurd (true≢false (sym begins))
 CR-LF-parted byte (first ∷ text) is-CR begins =
     rw (is-CR, eqb-true first LF begins) (record { rest = CR ∷ (LF ∷ text); others = text; is-text = refl; behind = line-end text CR-LF; lines-of-others = refl })
 

@@ -2,10 +2,10 @@
 use mathlib.Core.Path.{_≡_, refl, sym, ap, subst, _∙_}
 use Prim.Native.Nat.{ℕ, suc, _-_}
 use native.Mathlib.Omega.{arith}
-use mathlib.Core.Bool.{Bool, true, false, _&&_, true≢false}
+use mathlib.Core.Bool.{Bool, true, false, _&&_}
 use mathlib.Core.Logic.{_↔_}
 use mathlib.Core.List.{List, [], _∷_, _++_}
-use mathlib.Core.Option.{Option, none, some, Option·some-injective, Option·none-ne-some}
+use mathlib.Core.Option.{Option, none, some}
 use lib.Dec.{eqb}
 use lib.ListN.{length, getD, take}
 use lib.Seq.{take-suc, take-all}
@@ -13,11 +13,10 @@ use borrow.Author.Tests.{eqb-true}
 use Rattle.theory.specs.Row.{Row}
 use Rattle.theory.proofs.Limits.{both-pass}
 use Rattle.listing.specs.Listing.{ascii}
-use Rattle.texts.specs.Text.{Text, quote, linesOf, fieldsOf, held, numberIn, rowFrom, rowIn, names, sameBytes, hold, of-rows, not-of-the-form, withRow, rowsFrom, headed, textOf}
-use Rattle.texts.specs.Forms.{FieldOf, plain, quoted, NumberField, digits, threeFields, HeaderLine, header, RowLine, numbers, RowLines, no-rows, with-row, Written, written}
+use Rattle.texts.specs.Text.{Text, quote, linesOf, fieldsOf, held, numberIn, rowIn, names, hold, of-rows, not-of-the-form, withRow, rowsFrom, headed, textOf}
+use Rattle.texts.specs.Forms.{FieldOf, plain, quoted, NumberField, digits, joined, HeaderLine, header, RowLine, numbers, RowLines, no-rows, with-row, Written, written}
 use Rattle.texts.proofs.Forms.{written-read}
-use Rattle.texts.proofs.Alike.{Pairwise, no-parts, two, passed-same}
-use Rattle.texts.proofs.Joined.{joined}
+use Rattle.texts.proofs.ThreeFields.{row-numbers, Pairwise, no-parts, two, Holds, held-names}
 use Rattle.texts.proofs.Parted.{FirstLine, first-line, no-lines, fields-joined}
 use Rattle.texts.proofs.Zeros.{number-form}
 
@@ -48,59 +47,26 @@ held-form (byte ∷ field) = go (eqb byte quote && eqb (getD field (length field
         between-quotes byte (length field - 1) field (some-byte field closes) (eqb-true byte quote (both .0)) closes
     go false is = plain
 
+-- so it is a field of what it holds
+field-of : {field content : List ℕ} → held field ≡ content → FieldOf content field
+field-of {field} holds = subst (λ (content : List ℕ). FieldOf content field) holds (held-form field)
+
 -- a field that holds a number
 number-field : (field : List ℕ) (n : ℕ) → numberIn (held field) ≡ some n → NumberField n field
-number-field field n is-n =
-    let behind = number-form (held field) n is-n in
-    digits (behind .zeros) (subst (λ (content : List ℕ). FieldOf content field) (behind .are-bytes) (held-form field))
-
--- a field that holds a name
-name-field : (field name : List ℕ) → sameBytes (held field) name ≡ true → FieldOf name field
-name-field field name same = subst (λ (content : List ℕ). FieldOf content field) (passed-same (held field) name same) (held-form field)
+number-field field n is-n = let behind = number-form (held field) n is-n in digits (behind .zeros) (field-of (behind .are-bytes))
 
 -- ---- lines
 
--- a line of three fields
-three-joined : (line first second third : List ℕ) → fieldsOf line ≡ first ∷ (second ∷ (third ∷ [])) → threeFields first second third ≡ line
-unfolding joined
-three-joined line first second third fields = ap joined (sym fields) ∙ fields-joined line
-
--- three numbers that are a row are its own
-three-numbers : (c d t : Option ℕ) (row : Row) → rowFrom c d t ≡ some row → (c ≡ some (row .C)) × (d ≡ some (row .D)) × (t ≡ some (row .T))
-unfolding rowFrom
-three-numbers none d t row is-row = absurd (Option·none-ne-some row is-row)
-three-numbers (some c) none t row is-row = absurd (Option·none-ne-some row is-row)
-three-numbers (some c) (some d) none row is-row = absurd (Option·none-ne-some row is-row)
-three-numbers (some c) (some d) (some t) row is-row =
-    let same : record { C = c; D = d; T = t } ≡ row = Option·some-injective (record { C = c; D = d; T = t }) row is-row in
-    (ap (λ (r : Row). some (r .C)) same, ap (λ (r : Row). some (r .D)) same, ap (λ (r : Row). some (r .T)) same)
-
 -- a line whose fields are a row
-row-line : (line : List ℕ) (row : Row) (fields : List (List ℕ)) → fieldsOf line ≡ fields → rowIn fields ≡ some row → RowLine row line
-unfolding rowIn
-row-line line row [] same is-row = absurd (Option·none-ne-some row is-row)
-row-line line row (c ∷ []) same is-row = absurd (Option·none-ne-some row is-row)
-row-line line row (c ∷ (d ∷ [])) same is-row = absurd (Option·none-ne-some row is-row)
-row-line line row (c ∷ (d ∷ (t ∷ []))) same is-row =
-    let three = three-numbers (numberIn (held c)) (numberIn (held d)) (numberIn (held t)) row is-row in
-    subst (RowLine row) (three-joined line c d t same) (numbers (number-field c (row .C) (three .0)) (number-field d (row .D) (three .1)) (number-field t (row .T) (three .2)))
-row-line line row (c ∷ (d ∷ (t ∷ (more ∷ fields)))) same is-row = absurd (Option·none-ne-some row is-row)
-
--- fields that hold names, one each
-held-names : (fields some-names : List (List ℕ)) → hold fields some-names ≡ true → Pairwise (λ field name. FieldOf name field) fields some-names
-unfolding hold
-held-names [] [] holds = no-parts
-held-names [] (name ∷ some-names) holds = absurd (true≢false (sym holds))
-held-names (field ∷ fields) [] holds = absurd (true≢false (sym holds))
-held-names (field ∷ fields) (name ∷ some-names) holds =
-    let both = both-pass (sameBytes (held field) name) (hold fields some-names) holds in
-    two (name-field field name (both .0)) (held-names fields some-names (both .1))
+row-line : (line : List ℕ) (row : Row) → rowIn (fieldsOf line) ≡ some row → RowLine row line
+row-line line row is-row =
+    let own = row-numbers (fieldsOf line) row is-row in
+    subst (RowLine row) (sym (ap joined (own .three)) ∙ fields-joined line)
+    (numbers (number-field (own .first) (row .C) (own .is-c)) (number-field (own .second) (row .D) (own .is-d)) (number-field (own .third) (row .T) (own .is-t)))
 
 -- a line whose fields hold the header's
-header-line : {fields : List (List ℕ)} (line : List ℕ) → fieldsOf line ≡ fields
-    → Pairwise (λ field name. FieldOf name field) fields (ascii "wcet" ∷ (ascii "deadline" ∷ (ascii "period" ∷ [])))
-    → HeaderLine line
-header-line line same (two {a = wcet} w (two {a = deadline} d (two {a = period} p no-parts))) = subst HeaderLine (three-joined line wcet deadline period same) (header w d p)
+header-line : {fields : List (List ℕ)} (line : List ℕ) → fieldsOf line ≡ fields → Pairwise Holds fields (ascii "wcet" ∷ (ascii "deadline" ∷ (ascii "period" ∷ []))) → HeaderLine line
+header-line line same (two w (two d (two p no-parts))) = subst HeaderLine (sym (ap joined same) ∙ fields-joined line) (header (field-of w) (field-of d) (field-of p))
 
 -- ---- the text
 
@@ -127,7 +93,7 @@ row-lines (line ∷ lines) number rows text parted are-rows =
     go (some row) is-row (not-of-the-form bad) are-further is-rows written-behind = absurd (no-form-no-rows is-rows)
     go (some row) is-row (of-rows others) are-further is-rows written-behind =
         let all-rows : row ∷ others ≡ rows = cc in
-        let lines-written = with-row (row-line line row (fieldsOf line) refl is-row) (first .behind) (written-behind others (first .others) (first .lines-of-others) are-further) in
+        let lines-written = with-row (row-line line row is-row) (first .behind) (written-behind others (first .others) (first .lines-of-others) are-further) in
         subst (λ (some-rows : List Row). RowLines some-rows text) all-rows (subst (RowLines (row ∷ others)) (sym (first .is-text)) lines-written)
 
 -- lines that are a header and rows

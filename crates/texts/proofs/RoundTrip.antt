@@ -1,41 +1,40 @@
 -- THE ROUND TRIP: the first three columns of the text that is written are the table that it was written for; the text itself is not read.
 use mathlib.Core.Path.{_≡_, refl, sym, ap, subst, _∙_}
-use Prim.Native.Nat.{ℕ, suc, _+_, _≤_, suc-le-suc}
+use Prim.Native.Nat.{ℕ, _≤_}
 use native.Mathlib.Omega.{arith}
 use mathlib.Core.Bool.{false}
 use mathlib.Core.List.{List, [], _∷_, flatMap}
 use lib.ListN.{length}
-use borrow.Author.Tests.{le-leb, le-ltb}
+use borrow.Author.Tests.{le-leb}
 use Rattle.theory.specs.Row.{Row, AllWithin}
 use Rattle.theory.specs.Gather.{All, every}
-use Rattle.theory.proofs.Limits.{keeping-limits-passes}
 use Rattle.placement.specs.Core.{Table}
 use Rattle.placement.specs.Figures.{Figures}
-use Rattle.records.specs.Reading.{Reading, table, TableWithin}
+use Rattle.records.specs.Reading.{table, TableWithin}
 use Rattle.listing.specs.Listing.{ascii, decimal}
 use Rattle.texts.specs.Text.{inFront, linesOf, fieldsOf, held, names, sameBytes, hold, of-rows, not-of-the-form, headed, textOf}
+use Rattle.texts.proofs.Judged.{within-judged}
 use Rattle.texts.proofs.Reading.{read-text-within, read-text-cores}
-use Rattle.texts.specs.Table.{onCores, judged, tableFrom, readText}
+use Rattle.texts.specs.Table.{onCores, tableFrom, readText}
 use Rattle.texts.specs.Columns.{allNames, certifiedLine, certifiedLines, certifiedText, firstColumns}
-use Rattle.texts.specs.Forms.{plain, NumberField, digits, header, numbers, CR-LF, line-end, RowLines, no-rows, with-row, Written, written}
+use Rattle.texts.specs.Forms.{joined, plain, NumberField, digits, header, numbers, CR-LF, line-end, RowLines, no-rows, with-row, Written, written}
 use Rattle.texts.proofs.Lines.{Ordinary}
-use Rattle.texts.proofs.Digits.{decimal-digits}
-use Rattle.texts.proofs.Fields.{digits-ordinary}
+use Rattle.texts.proofs.Fields.{number-field-ordinary}
 use Rattle.texts.proofs.Forms.{name-ordinary, written-read}
-use Rattle.texts.proofs.Joined.{joined, OrdinaryFields, three-line, line-of-read, first-columns-line}
+use Rattle.texts.proofs.Joined.{OrdinaryFields, line-of, line-of-read, first-columns-line}
+
+-- a number's digits are a field that holds it
+decimal-field : (n : ℕ) → NumberField n (decimal n)
+decimal-field n = digits 0 plain
 
 decimal-ordinary : (n : ℕ) → All Ordinary (decimal n)
-decimal-ordinary n = digits-ordinary (decimal n) (decimal-digits n)
+decimal-ordinary n = number-field-ordinary (decimal-field n)
 
 names-ordinary : OrdinaryFields allNames
 unfolding allNames names ascii every
 names-ordinary =
     let own = name-ordinary in
     (own (ascii "wcet") tt, (own (ascii "deadline") tt, (own (ascii "period") tt, (own (ascii "core") tt, (own (ascii "response") tt, (own (ascii "allowance") tt, tt))))))
-
--- a number's digits are a field that holds it
-decimal-field : (n : ℕ) → NumberField n (decimal n)
-decimal-field n = digits 0 plain
 
 -- the first columns of the lines that are written are of the grammar
 first-columns-lines : (rows : List Row) (all : List Figures) → length all ≡ length rows → RowLines rows (firstColumns (certifiedLines rows all))
@@ -47,7 +46,7 @@ first-columns-lines (row ∷ rows) (figures ∷ all) as-many =
     let own = decimal-ordinary in
     let line = first-columns-line (decimal (row .C)) (decimal (row .D) ∷ (decimal (row .T) ∷ (decimal (figures .core) ∷ (decimal (figures .response) ∷ (decimal (figures .allowance) ∷ []))))) (certifiedLines rows all)
     (own (row .C), (own (row .D), (own (row .T), (own (figures .core), (own (figures .response), (own (figures .allowance), tt)))))) in
-    subst (RowLines (row ∷ rows)) (sym (line ∙ three-line (decimal (row .C)) (decimal (row .D)) (decimal (row .T)) behind))
+    subst (RowLines (row ∷ rows)) (sym (line ∙ line-of (decimal (row .C) ∷ (decimal (row .D) ∷ (decimal (row .T) ∷ []))) behind))
     (with-row (numbers (decimal-field (row .C)) (decimal-field (row .D)) (decimal-field (row .T))) (line-end behind CR-LF) (first-columns-lines rows all (omega arith)))
 
 -- so are those of the text
@@ -56,7 +55,7 @@ unfolding certifiedText allNames names
 first-columns-written rows all as-many =
     let behind = firstColumns (certifiedLines rows all) in
     let line = first-columns-line (ascii "wcet") (ascii "deadline" ∷ (ascii "period" ∷ (ascii "core" ∷ (ascii "response" ∷ (ascii "allowance" ∷ []))))) (certifiedLines rows all) names-ordinary in
-    subst (Written rows) (sym (line ∙ three-line (ascii "wcet") (ascii "deadline") (ascii "period") behind))
+    subst (Written rows) (sym (line ∙ line-of (ascii "wcet" ∷ (ascii "deadline" ∷ (ascii "period" ∷ []))) behind))
     (written (header plain plain plain) (line-end behind CR-LF) (first-columns-lines rows all as-many))
 
 -- THE FIRST THREE COLUMNS ARE READ
@@ -72,14 +71,6 @@ six-names-no-header = refl
 pub six-columns-not-read : (rows : List Row) (all : List Figures) → textOf (certifiedText rows all) ≡ not-of-the-form 1
 unfolding certifiedText textOf headed
 six-columns-not-read rows all = rw (line-of-read allNames (certifiedLines rows all) names-ordinary, six-names-no-header, headed)
-
--- rows within the limits, none of them a 25th, are judged sound
-pub within-judged : (number : ℕ) (rows : List Row) (sound : Reading) → number + length rows ≤ 25 → AllWithin rows → judged number rows sound ≡ sound
-unfolding judged
-within-judged number [] sound few within = refl
-within-judged number (row ∷ rows) sound few within =
-    rw (le-ltb 24 number (omega arith), keeping-limits-passes row (within 0 (omega arith)), judged)
-    (within-judged (suc number) rows sound (omega arith) (λ k inside. within (suc k) (suc-le-suc inside)))
 
 -- the rows of a table that keeps the rules are that table on its cores
 pub within-table : (t : Table) → TableWithin t → tableFrom (t .cores) (t .rows) ≡ table t

@@ -9,7 +9,8 @@ use borrow.Author.Tests.{eqb-true, eqb-false}
 use Rattle.texts.specs.Text.{LF, CR, comma, beginsWith, inFront, linesOf, fieldsOf, textOf}
 use Rattle.texts.specs.Rest.{firstPart, otherParts}
 use Rattle.texts.proofs.Lines.{first-in-front, others-in-front, some-line, some-field, stays-in-field}
-use Rattle.texts.proofs.Alike.{Pairwise, two, no-parts, Alike, AlikeLines, alike-itself, alike-headed}
+use Rattle.texts.proofs.ThreeFields.{Pairwise, no-parts, two}
+use Rattle.texts.proofs.Alike.{Alike, AlikeLines, alike-itself, alike-headed}
 
 -- two texts, by their lines: the first field of one is related to that of the other, and all behind these is alike
 pub record Start (R : List ℕ → List ℕ → Type 0) (lines others : List (List ℕ)) : Type 0 where

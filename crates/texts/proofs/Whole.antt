@@ -5,9 +5,9 @@ use native.Mathlib.Omega.{arith}
 use mathlib.Core.List.{List, [], _∷_, _++_, append-nil}
 use lib.ListN.{length}
 use Rattle.theory.specs.Gather.{All}
-use Rattle.theory.proofs.Each.{all-map, all-append}
+use Rattle.theory.proofs.Each.{all-map}
 use Rattle.texts.specs.Text.{LF, CR, comma, inFront, linesOf, fieldsOf}
-use Rattle.texts.specs.Forms.{threeFields, LineEnd, LF-alone, CR-LF, Behind, line-end, end-of-text}
+use Rattle.texts.specs.Forms.{LineEnd, LF-alone, CR-LF, Behind, line-end, end-of-text}
 use Rattle.texts.proofs.Lines.{Ordinary, stays-in-line, stays-in-field}
 
 -- a byte that is a line's own: of no line end
@@ -60,16 +60,3 @@ pub last-field : (field : List ℕ) → All Ordinary field → fieldsOf field �
 unfolding fieldsOf inFront
 last-field [] ordinary = refl
 last-field (byte ∷ field) ordinary = stays-in-field byte field (ordinary .0 .no-comma) ∙ ap (inFront byte) (last-field field (ordinary .1))
-
--- a line of three fields: its bytes, and its fields
-module _ (first second third : List ℕ) (own-first : All Ordinary first) (own-second : All Ordinary second) (own-third : All Ordinary third) where
-  pub three-in-line : All InLine (threeFields first second third)
-  three-in-line =
-      let comma-in-line : InLine comma = record { no-LF = omega arith; no-CR = omega arith } in
-      let behind = all-append InLine second (comma ∷ third) (field-in-line second own-second) (comma-in-line, field-in-line third own-third) in
-      all-append InLine first (comma ∷ (second ++ (comma ∷ third))) (field-in-line first own-first) (comma-in-line, behind)
-
-  pub three-read : fieldsOf (threeFields first second third) ≡ first ∷ (second ∷ (third ∷ []))
-  three-read =
-      field-in-front first (second ++ (comma ∷ third)) own-first
-      ∙ ap (λ fields. first ∷ fields) (field-in-front second third own-second ∙ ap (λ fields. second ∷ fields) (last-field third own-third))

@@ -4,7 +4,7 @@ use Prim.Native.Nat.{ℕ, suc, _+_, _-_, _*_, _/_, _%_, _≤_}
 use native.Mathlib.Omega.{arith}
 use mathlib.Core.Bool.{Bool, true, false}
 use mathlib.Core.List.{List, [], _∷_, _++_, append-nil}
-use mathlib.Core.Option.{Option, some, IsSome, Option·none-ne-some}
+use mathlib.Core.Option.{some, IsSome, Option·some-injective, Option·none-ne-some}
 use lib.Dec.{eqb}
 use lib.ListN.{replicate}
 use lib.Seq.{append-snoc}
@@ -14,7 +14,7 @@ use Rattle.listing.specs.Listing.{decimal}
 use Rattle.listing.proofs.Decimal.{decimalFrom, IsDigit, decimal-one-digit, decimal-more-digits}
 use Rattle.texts.specs.Text.{numberIn}
 use Rattle.texts.specs.Forms.{digitZero}
-use Rattle.texts.proofs.Numbers.{number-of-digits, digits-number}
+use Rattle.texts.proofs.Numbers.{digits-number, number-digits}
 
 -- a digit behind the digits of a number above 0
 digit-behind : (n digit : ℕ) → 1 ≤ n → IsDigit digit → decimal n ++ (digit ∷ []) ≡ decimal (n * 10 + (digit - 48))
@@ -68,6 +68,5 @@ pub number-form : (bytes : List ℕ) (n : ℕ) → numberIn bytes ≡ some n →
 unfolding numberIn
 number-form [] n is-n = absurd (Option·none-ne-some n is-n)
 number-form (byte ∷ bytes) n is-n =
-    let are-digits = number-of-digits 0 (byte ∷ bytes) (subst (λ (o : Option ℕ). IsSome o) (sym is-n) tt) in
-    let same : decimalFrom 0 (byte ∷ bytes) ≡ n = let number = digits-number byte bytes are-digits in cc in
-    subst (BehindZeros (byte ∷ bytes)) same (behind-zeros byte bytes are-digits)
+    let digits = number-digits (byte ∷ bytes) (subst IsSome (sym is-n) tt) in
+    subst (BehindZeros (byte ∷ bytes)) (Option·some-injective _ n (sym (digits-number (byte ∷ bytes) (digits .0) (digits .1)) ∙ is-n)) (behind-zeros byte bytes (digits .0))

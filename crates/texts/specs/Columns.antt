@@ -5,13 +5,12 @@ use lib.ListN.{take}
 use Rattle.theory.specs.Row.{Row}
 use Rattle.placement.specs.Figures.{Figures}
 use Rattle.listing.specs.Listing.{ascii, decimal}
-use Rattle.texts.specs.Text.{LF, CR, comma, linesOf, fieldsOf, names}
+use Rattle.texts.specs.Text.{LF, CR, linesOf, fieldsOf, names}
+use Rattle.texts.specs.Forms.{joined}
 
--- a line of fields
+-- a line of fields: commas between them, CR LF behind
 unfoldable pub lineOf : List (List ℕ) → List ℕ
-lineOf [] = CR ∷ LF ∷ []
-lineOf (field ∷ []) = field ++ (CR ∷ LF ∷ [])
-lineOf (field ∷ (next ∷ fields)) = field ++ (comma ∷ lineOf (next ∷ fields))
+lineOf fields = joined fields ++ (CR ∷ LF ∷ [])
 
 -- the names of the header that is written
 unfoldable pub allNames : List (List ℕ)

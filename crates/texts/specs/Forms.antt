@@ -19,9 +19,11 @@ pub data FieldOf (content : List ℕ) : List ℕ → Type 0 where
 pub data NumberField (n : ℕ) : List ℕ → Type 0 where
   digits : (zeros : ℕ) {field : List ℕ} → FieldOf (replicate zeros digitZero ++ decimal n) field → NumberField n field
 
--- a line of three fields, commas between them
-abbrev pub threeFields : List ℕ → List ℕ → List ℕ → List ℕ
-threeFields first second third = first ++ (comma ∷ (second ++ (comma ∷ third)))
+-- fields with commas between them
+unfoldable pub joined : List (List ℕ) → List ℕ
+joined [] = []
+joined (field ∷ []) = field
+joined (field ∷ (next ∷ fields)) = field ++ (comma ∷ joined (next ∷ fields))
 
 -- the header's line: three names
 pub data HeaderLine : List ℕ → Type 0 where
@@ -30,11 +32,11 @@ pub data HeaderLine : List ℕ → Type 0 where
       → FieldOf (ascii "wcet") wcet
       → FieldOf (ascii "deadline") deadline
       → FieldOf (ascii "period") period
-      → HeaderLine (threeFields wcet deadline period)
+      → HeaderLine (joined (wcet ∷ deadline ∷ period ∷ []))
 
 -- a row's line: three numbers
 pub data RowLine (row : Row) : List ℕ → Type 0 where
-  numbers : {c d t : List ℕ} → NumberField (row .C) c → NumberField (row .D) d → NumberField (row .T) t → RowLine row (threeFields c d t)
+  numbers : {c d t : List ℕ} → NumberField (row .C) c → NumberField (row .D) d → NumberField (row .T) t → RowLine row (joined (c ∷ d ∷ t ∷ []))
 
 -- a line end: LF or CR LF
 pub data LineEnd : List ℕ → Type 0 where

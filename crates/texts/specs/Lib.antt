@@ -2,5 +2,5 @@
 pub mod Text
 pub mod Rest
 pub mod Table
-pub mod Columns
 pub mod Forms
+pub mod Columns

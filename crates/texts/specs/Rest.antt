@@ -1,7 +1,9 @@
--- What stands from a place in a text on, for one that reads it from the front: the rest of a field, of its line, and of the text.
-use Prim.Native.Nat.{ℕ}
+-- For the contracts of the code, which reads a text from the front: what stands from a place on, the rest of a field, of its line, and of the text. The promises do
+-- not speak of it.
+use Prim.Native.Nat.{ℕ, _<_}
 use mathlib.Core.List.{List, [], _∷_}
-use Rattle.texts.specs.Text.{linesOf, fieldsOf}
+use mathlib.Core.Option.{IsSome}
+use Rattle.texts.specs.Text.{comma, linesOf, fieldsOf, numberIn}
 
 -- the first part, which is empty where there are none, and the others
 abbrev pub firstPart : List (List ℕ) → List ℕ
@@ -25,3 +27,11 @@ restOfField text = firstPart (fieldsOf (restOfLine text))
 
 abbrev pub fieldsBehind : List ℕ → List (List ℕ)
 fieldsBehind text = otherParts (fieldsOf (restOfLine text))
+
+-- a byte above the comma, as letters and digits are: no line end, comma or quote
+abbrev pub Plain : ℕ → Type 0
+Plain byte = comma < byte
+
+-- bytes that are a number
+abbrev pub IsNumber : List ℕ → Type 0
+IsNumber bytes = IsSome (numberIn bytes)

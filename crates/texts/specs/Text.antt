@@ -30,12 +30,13 @@ abbrev pub beginsWith : ℕ → List ℕ → Bool
 beginsWith byte [] = false
 beginsWith byte (first ∷ others) = eqb first byte
 
--- a byte put in front of the first part
+-- a byte put in front of the first part; where there is none, a part of its own
 unfoldable pub inFront : ℕ → List (List ℕ) → List (List ℕ)
 inFront byte [] = (byte ∷ []) ∷ []
 inFront byte (part ∷ parts) = (byte ∷ part) ∷ parts
 
--- the lines of a text: each ends in LF or in CR LF, the last one may do without; a CR that is not before an LF is a byte of its line
+-- the lines of a text: each ends in LF or in CR LF, the last one may do without; a CR that is not before an LF is a byte of its line. It ends inside quotes too:
+-- a quoted field that is cut there holds a quote, as no number and no name does, so the line where it begins is not of the form.
 unfoldable pub linesOf : List ℕ → List (List ℕ)
 linesOf [] = []
 linesOf (byte ∷ text) =
@@ -44,12 +45,13 @@ linesOf (byte ∷ text) =
       | false ↦ elim (eqb byte CR && beginsWith LF text) [ true ↦ linesOf text | false ↦ inFront byte (linesOf text) ]
     ]
 
--- the fields of a line: commas stand between them
+-- the fields of a line: commas stand between them, inside quotes too, where the same is true
 unfoldable pub fieldsOf : List ℕ → List (List ℕ)
 fieldsOf [] = [] ∷ []
 fieldsOf (byte ∷ line) = elim (eqb byte comma) [ true ↦ [] ∷ fieldsOf line | false ↦ inFront byte (fieldsOf line) ]
 
--- what a field holds: what stands between its quotes where it begins and ends with one, else all of it
+-- what a field holds: what stands between its quotes where it begins and ends with one, else all of it. One quote alone is not both:
+-- behind it stands nothing, where the last place is 0 - 1 = 0 and the byte there counts as 0.
 unfoldable pub held : List ℕ → List ℕ
 held [] = []
 held (byte ∷ field) =
@@ -95,9 +97,9 @@ sameBytes (byte ∷ bytes) (other ∷ others) = eqb byte other && sameBytes byte
 -- whether fields hold names, one each
 unfoldable pub hold : List (List ℕ) → List (List ℕ) → Bool
 hold [] [] = true
-hold [] (name ∷ names) = false
+hold [] (name ∷ others) = false
 hold (field ∷ fields) [] = false
-hold (field ∷ fields) (name ∷ names) = sameBytes (held field) name && hold fields names
+hold (field ∷ fields) (name ∷ others) = sameBytes (held field) name && hold fields others
 
 -- a text is the rows of a table, or its first line that is not of the form has a number; the header is line 1
 pub data Text : Type 0 where

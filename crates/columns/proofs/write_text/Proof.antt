@@ -5,6 +5,7 @@ use Rattle.theory.specs.Lists.{rowsOf}
 use Rattle.placement.specs.Figures.{figuresFrom}
 use Rattle.listing.specs.Listing.{ascii}
 use Rattle.texts.specs.Text.{names}
+use Rattle.texts.specs.Forms.{joined}
 use Rattle.texts.specs.Columns.{lineOf, allNames}
 use Rattle.columns.proofs.Written.{text-written}
 use Rattle.columns.proofs.write_text.Statement.{statement}
@@ -23,7 +24,7 @@ same-length : tie.Need-same-length
 same-length c = search needs
 
 returns : tie.Need-returns
-unfolding lineOf allNames names ascii
+unfolding joined lineOf allNames names ascii
 returns c =
     let start = c .before .before .before .before .before .before .before .before .before .before .before .before .before .before .before .before in
     let args = start .args in

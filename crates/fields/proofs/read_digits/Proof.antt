@@ -5,6 +5,7 @@ use Prim.Native.Nat.{_-_}
 use borrow.Author.Tests.{not-true, not-false}
 use lib.ListN.{length, getD}
 use borrow.Author.Needs.{needs}
+use Rattle.listing.proofs.Decimal.{IsDigit}
 use Rattle.texts.proofs.Numbers.{passed-digit}
 use Rattle.fields.specs.Found.{DigitsTo}
 use Rattle.fields.proofs.SoFar.{digits-begin, digits-go-on, digits-stop, text-stops}
@@ -30,17 +31,21 @@ returns : tie.Need-returns Inv-loop μ-loop
 returns c =
     let turn = c .before .before .before .before .loop in (turn .inv, digits-stop (c .before .before .before .before .before .before .args .text .now) (turn .end) (omega arith) (sym (c .before .is-digit .ensures) ∙ not-true _ (c .if1 .taken)))
 
+-- the byte at the end is one more digit
+one-digit : (c : tie.Else1 Inv-loop μ-loop) → IsDigit (getD (c .before .before .before .before .before .before .args .text .now) (c .before .before .before .before .loop .end) 0)
+one-digit c = passed-digit _ (sym (c .before .is-digit .ensures) ∙ not-false _ (c .if1 .left))
+
 mul-cap : tie.Need-mul-cap Inv-loop μ-loop
-mul-cap c = omega (arith, passed-digit (getD (c .before .before .before .before .before .before .args .text .now) (c .before .before .before .before .loop .end) 0) (sym (c .before .is-digit .ensures) ∙ not-false _ (c .if1 .left)))
+mul-cap c = omega (arith, one-digit c)
 
 sub-cap : tie.Need-sub-cap Inv-loop μ-loop
-sub-cap c = omega (arith, passed-digit (getD (c .before .before .before .before .before .before .args .text .now) (c .before .before .before .before .loop .end) 0) (sym (c .before .is-digit .ensures) ∙ not-false _ (c .if1 .left)))
+sub-cap c = omega (arith, one-digit c)
 
 cast-cap : tie.Need-cast-cap Inv-loop μ-loop
-cast-cap c = omega (arith, passed-digit (getD (c .before .before .before .before .before .before .args .text .now) (c .before .before .before .before .loop .end) 0) (sym (c .before .is-digit .ensures) ∙ not-false _ (c .if1 .left)))
+cast-cap c = omega (arith, one-digit c)
 
 add-cap : tie.Need-add-cap Inv-loop μ-loop
-add-cap c = omega (arith, passed-digit (getD (c .before .before .before .before .before .before .args .text .now) (c .before .before .before .before .loop .end) 0) (sym (c .before .is-digit .ensures) ∙ not-false _ (c .if1 .left)))
+add-cap c = omega (arith, one-digit c)
 
 cap-requires : tie.Need-cap-requires Inv-loop μ-loop
 cap-requires c κs = search needs

@@ -4,9 +4,10 @@ use mathlib.Core.Path.{subst}
 use borrow.Author.Needs.{needs}
 use Rattle.listing.specs.Listing.{ascii}
 use Rattle.fields.specs.declared.Behind.the-variants.{Comma}
-use Rattle.fields.specs.Found.{IsNameThen}
+use Rattle.fields.specs.declared.Place.the-variants.{At}
+use Rattle.fields.specs.Found.{Named, IsNameThen}
 use Rattle.fields.proofs.Followed.{not-first, not-second}
-use Rattle.fields.proofs.LineFields.{Named, not-the-header, header-found}
+use Rattle.fields.proofs.LineFields.{not-the-header, header-found}
 use Rattle.fields.proofs.read_header.Statement.{statement}
 use Rattle.fields.proofs.read_header.Tie as tie
 
@@ -22,9 +23,17 @@ enum-known-second c = search needs
 slice-aggregate-name-then-2 : tie.Need-slice-aggregate-name-then-2
 slice-aggregate-name-then-2 c = search needs
 
-name-then-requires-2 : tie.Need-name-then-requires-2
+-- the names that were found
+is-wcet : (c : tie.After-known-told) → IsNameThen Comma (ascii "wcet") (c .before .before .before .before .before .before .args .text .now) 0 (At (c .before .second .given .0 .0))
 unfolding ascii
-name-then-requires-2 c κs = ((subst (IsNameThen Comma (ascii "wcet") (c .before .before .before .before .before .before .before .args .text .now) 0) (c .before .before .second .given .1) (c .before .before .before .before .name-then .ensures)) .inside, omega arith, search needs)
+is-wcet c = subst (IsNameThen Comma (ascii "wcet") (c .before .before .before .before .before .before .args .text .now) 0) (c .before .second .given .1) (c .before .before .before .name-then .ensures)
+
+is-deadline : (c : tie.After-known-told2) → IsNameThen Comma (ascii "deadline") (c .before .before .before .before .before .before .before .before .before .before .before .args .text .now) (c .before .before .before .before .before .before .second .given .0 .0) (At (c .before .third .given .0 .0))
+unfolding ascii
+is-deadline c = subst (IsNameThen Comma (ascii "deadline") (c .before .before .before .before .before .before .before .before .before .before .before .args .text .now) (c .before .before .before .before .before .before .second .given .0 .0)) (c .before .third .given .1) (c .before .before .before .name-then2 .ensures)
+
+name-then-requires-2 : tie.Need-name-then-requires-2
+name-then-requires-2 c κs = (is-wcet (c .before) .inside, omega arith, search needs)
 
 enum-known-third : tie.Need-enum-known-third
 enum-known-third c = search needs
@@ -33,8 +42,7 @@ slice-aggregate-name-then-3 : tie.Need-slice-aggregate-name-then-3
 slice-aggregate-name-then-3 c = search needs
 
 name-then-requires-3 : tie.Need-name-then-requires-3
-unfolding ascii
-name-then-requires-3 c κs = ((subst (IsNameThen Comma (ascii "deadline") (c .before .before .before .before .before .before .before .before .before .before .before .before .args .text .now) (c .before .before .before .before .before .before .before .second .given .0 .0)) (c .before .before .third .given .1) (c .before .before .before .before .name-then2 .ensures)) .inside, omega arith, search needs)
+name-then-requires-3 c κs = (is-deadline (c .before) .inside, omega arith, search needs)
 
 enum-told : tie.Need-enum-told
 enum-told c = search needs
@@ -44,15 +52,15 @@ enum-told-2 c = search needs
 
 returns : tie.Need-returns
 unfolding ascii
-returns c =
-    let text = c .before .before .before .before .before .before .before .before .before .before .before .before .before .args .text .now in
-    header-found text (subst (IsNameThen Comma (ascii "wcet") (c .before .before .before .before .before .before .before .before .before .before .before .before .before .args .text .now) 0) (c .before .before .before .before .before .before .before .before .second .given .1) (c .before .before .before .before .before .before .before .before .before .before .name-then .ensures)) (subst (IsNameThen Comma (ascii "deadline") (c .before .before .before .before .before .before .before .before .before .before .before .before .before .args .text .now) (c .before .before .before .before .before .before .before .before .second .given .0 .0)) (c .before .before .before .third .given .1) (c .before .before .before .before .before .name-then2 .ensures)) (c .name-then3 .result) (c .name-then3 .ensures)
+returns c = header-found (c .before .before .before .before .before .before .before .before .before .before .before .before .before .args .text .now) (is-wcet (c .before .before .before .before .before .before .before)) (is-deadline (c .before .before)) (c .name-then3 .result) (c .name-then3 .ensures)
 
 returns-2 : tie.Need-returns-2
 unfolding ascii
 returns-2 c =
     let text = c .before .before .before .before .before .before .before .before .before .before .args .text .now in
-    not-the-header text (not-second (Named (ascii "wcet")) (Named (ascii "deadline")) (Named (ascii "period")) text (subst (IsNameThen Comma (ascii "wcet") (c .before .before .before .before .before .before .before .before .before .before .args .text .now) 0) (c .before .before .before .before .before .second .given .1) (c .before .before .before .before .before .before .before .name-then .ensures)) (subst (IsNameThen Comma (ascii "deadline") text (c .before .before .before .before .before .second .given .0 .0)) (c .enum-told .given .1) (c .before .before .name-then2 .ensures)))
+    not-the-header text
+    (not-second (Named (ascii "wcet")) (Named (ascii "deadline")) (Named (ascii "period")) text (is-wcet (c .before .before .before .before))
+    (subst (IsNameThen Comma (ascii "deadline") text (c .before .before .before .before .before .second .given .0 .0)) (c .enum-told .given .1) (c .before .before .name-then2 .ensures)))
 
 returns-3 : tie.Need-returns-3
 unfolding ascii

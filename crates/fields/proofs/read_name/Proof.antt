@@ -11,7 +11,11 @@ matched-requires : tie.Need-matched-requires
 matched-requires c κs = search needs
 
 returns : tie.Need-returns
-returns c = let args = c .before .before .before .before .before .args in no-name (args .text .now) (args .at) (c .before .before .content-at .result) (c .before .before .content-at .ensures .0) (args .name .now) (c .before .before .before .before .before .pre .1) (c .before .before .before .before .before .pre .2) (c .before .matched .result) (c .before .matched .ensures) (c .if1 .taken)
+returns c =
+    let start = c .before .before .before .before .before in
+    let content = c .before .before .content-at in
+    let name = c .before .matched in
+    no-name (start .args .text .now) (start .args .at) (content .result) (content .ensures .0) (start .args .name .now) (start .pre .1) (start .pre .2) (name .result) (name .ensures) (c .if1 .taken)
 
 add-field-end : tie.Need-add-field-end
 add-field-end c = search needs
@@ -20,7 +24,12 @@ field-end-requires : tie.Need-field-end-requires
 field-end-requires c κs = search needs
 
 returns-2 : tie.Need-returns-2
-returns-2 c = let args = c .before .before .before .before .before .before .args in name-held (args .text .now) (args .at) (c .before .before .before .content-at .result) (c .before .before .before .content-at .ensures .0) (args .name .now) (c .before .before .before .before .before .before .pre .1) (c .before .before .before .before .before .before .pre .2) (c .before .before .matched .result) (c .before .before .matched .ensures) (c .before .if1 .left) (c .field-end .result) (c .field-end .ensures)
+returns-2 c =
+    let start = c .before .before .before .before .before .before in
+    let content = c .before .before .before .content-at in
+    let name = c .before .before .matched in
+    name-held (start .args .text .now) (start .args .at) (content .result) (content .ensures .0) (start .args .name .now) (start .pre .1) (start .pre .2) (name .result) (name .ensures)
+    (c .before .if1 .left) (c .field-end .result) (c .field-end .ensures)
 
 pub read-name-spec : {M : Type 1} → statement M
 read-name-spec =

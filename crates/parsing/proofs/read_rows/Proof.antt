@@ -4,7 +4,7 @@ use mathlib.Core.Path.{refl, subst}
 use Prim.Native.Nat.{_-_}
 use lib.ListN.{length}
 use borrow.Author.Needs.{needs}
-use Rattle.fields.specs.Found.{IsLine}
+use Rattle.fields.specs.Found.{RowAt, IsLine}
 use Rattle.parsing.proofs.SoFar.{SoFar, begins, goes-on, breaks, ends}
 use Rattle.parsing.proofs.read_rows.Statement.{statement}
 use Rattle.parsing.proofs.read_rows.Tie as tie
@@ -46,31 +46,39 @@ put-at-requires-3 : tie.Need-put-at-requires-3 Inv-loop μ-loop
 put-at-requires-3 c κs = search needs
 
 add-n : tie.Need-add-n Inv-loop μ-loop
-add-n c = omega (arith, c .before .before .before .before .before .before .before .before .before .before .before .before .before .before .before .loop .inv .lines-few, c .before .before .before .before .before .before .before .before .before .before .before .before .before .before .before .loop .inv .inside)
+add-n c = let stands = c .before .before .before .before .before .before .before .before .before .before .before .before .before .before .before .loop .inv in omega (arith, stands .lines-few, stands .inside)
+
+-- the line is a row
+is-row : (c : tie.After-known-told Inv-loop μ-loop)
+    → let row = c .before .execution .given .0 in
+    RowAt (c .before .before .before .before .before .before .before .args .text .now) (c .before .before .before .before .before .loop .at) (row .0) (row .1 .0) (row .1 .1 .0) (row .1 .1 .1 .0)
+is-row c = subst (IsLine (c .before .before .before .before .before .before .before .args .text .now) (c .before .before .before .before .before .loop .at)) (c .before .execution .given .1) (c .before .before .before .read-line .ensures)
 
 loop-less : tie.Need-loop-less Inv-loop μ-loop
-loop-less c = omega (arith, subst (IsLine (c .before .before .before .before .before .before .before .before .before .before .before .before .before .before .before .before .before .args .text .now) (c .before .before .before .before .before .before .before .before .before .before .before .before .before .before .before .loop .at)) (c .before .before .before .before .before .before .before .before .before .before .before .execution .given .1) (c .before .before .before .before .before .before .before .before .before .before .before .before .before .read-line .ensures))
+loop-less c = omega (arith, is-row (c .before .before .before .before .before .before .before .before .before .before))
 
 loop-again : tie.Need-loop-again Inv-loop μ-loop
 loop-again c =
+    let args = c .before .before .before .before .before .before .before .before .before .before .before .before .before .before .before .before .before .args in
     let turn = c .before .before .before .before .before .before .before .before .before .before .before .before .before .before .before .loop in
-    goes-on (c .before .before .before .before .before .before .before .before .before .before .before .before .before .before .before .before .before .args .text .now) (c .before .before .before .before .before .before .before .before .before .before .before .before .before .before .before .before .before .args .start) (turn .c) (turn .d) (turn .t) (turn .n) (turn .fault) (turn .at) (turn .inv) (omega arith) _ _ _ _
-    (subst (IsLine (c .before .before .before .before .before .before .before .before .before .before .before .before .before .before .before .before .before .args .text .now) (c .before .before .before .before .before .before .before .before .before .before .before .before .before .before .before .loop .at)) (c .before .before .before .before .before .before .before .before .before .before .before .execution .given .1) (c .before .before .before .before .before .before .before .before .before .before .before .before .before .read-line .ensures))
+    goes-on (args .text .now) (args .start) (turn .c) (turn .d) (turn .t) (turn .n) (turn .fault) (turn .at) (turn .inv) (omega arith) _ _ _ _ (is-row (c .before .before .before .before .before .before .before .before .before .before))
     (c .before .before .before .before .before .before .before .put-at .ensures) (c .before .before .before .before .put-at2 .ensures) (c .before .put-at3 .ensures) (c .before .before .before .before .before .before .before .before .before .judge-row .ensures)
 
 enum-told : tie.Need-enum-told Inv-loop μ-loop
 enum-told c = search needs
 
 add-broken : tie.Need-add-broken Inv-loop μ-loop
-add-broken c = omega (arith, c .before .before .before .before .loop .inv .lines-few, c .before .before .before .before .loop .inv .inside)
+add-broken c = let stands = c .before .before .before .before .loop .inv in omega (arith, stands .lines-few, stands .inside)
 
 broken-requires : tie.Need-broken-requires Inv-loop μ-loop
 broken-requires c κs = search needs
 
 returns : tie.Need-returns Inv-loop μ-loop
 returns c =
+    let args = c .before .before .before .before .before .before .before .args in
     let turn = c .before .before .before .before .before .loop in
-    breaks (c .before .before .before .before .before .before .before .args .text .now) (c .before .before .before .before .before .before .before .args .start) (turn .c) (turn .d) (turn .t) (turn .n) (turn .fault) (turn .at) (turn .inv) (omega arith) (c .before .before .before .before .before .before .before .args .cores) (c .broken .result) (subst (IsLine (c .before .before .before .before .before .before .before .args .text .now) (turn .at)) (c .before .enum-told .given .1) (c .before .before .before .read-line .ensures)) (c .broken .ensures)
+    breaks (args .text .now) (args .start) (turn .c) (turn .d) (turn .t) (turn .n) (turn .fault) (turn .at) (turn .inv) (omega arith) (args .cores) (c .broken .result)
+    (subst (IsLine (args .text .now) (turn .at)) (c .before .enum-told .given .1) (c .before .before .before .read-line .ensures)) (c .broken .ensures)
 
 judge-table-requires : tie.Need-judge-table-requires Inv-loop μ-loop
 judge-table-requires c κs = search needs

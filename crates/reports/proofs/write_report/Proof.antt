@@ -7,7 +7,7 @@ use lib.ListN.{length}
 use borrow.Author.Needs.{needs}
 use Rattle.placement.specs.Figures.{figuresFrom}
 use Rattle.records.specs.Report.{figuresRecord}
-use Rattle.reports.proofs.Written.{three-written, written-from-front}
+use Rattle.reports.proofs.Written.{three-written, three-fill}
 use Rattle.reports.proofs.FirstRows.{records-length}
 use Rattle.reports.proofs.write_report.Statement.{statement}
 use Rattle.reports.proofs.write_report.Tie as tie
@@ -54,7 +54,7 @@ returns c =
     records rows count
     (omega arith) (omega arith) (omega (arith, long))
     (first .put-bytes .ensures) (rw long (second .write-rows .ensures)) (third .write-kind .ensures)
-    ∙ written-from-front (start .args .report .now) records rows count
+    ∙ three-fill (start .args .report .now) records rows count
 
 pub write-report-spec : {M : Type 1} → statement M
 write-report-spec =

@@ -8,7 +8,7 @@ use borrow.Author.Needs.{needs}
 use Rattle.theory.specs.Lists.{rowsOf, filled}
 use Rattle.theory.proofs.RowsOf.{rows-of-length}
 use Rattle.records.specs.Report.{rowRecord, tableRecords, tableBytes}
-use Rattle.reports.proofs.Written.{three-written, written-from-front}
+use Rattle.reports.proofs.Written.{three-written, three-fill}
 use Rattle.reports.proofs.FirstRows.{row-records-length}
 use Rattle.reports.proofs.write_table.Statement.{statement}
 use Rattle.reports.proofs.write_table.Tie as tie
@@ -54,7 +54,7 @@ returns c =
     let long = row-records-length c d t (start .pre .0 .2) (start .pre .0 .3) in
     three-written bytes (first .last .0) (second .last .0) (third .last .0) 0 2 (2 + 13 * length c) kind rows (4 ∷ length c ∷ [])
     (omega arith) (omega arith) (omega (arith, long)) (first .ensures) (rw long (second .ensures)) (third .ensures)
-    ∙ written-from-front bytes kind rows (4 ∷ length c ∷ [])
+    ∙ three-fill bytes kind rows (4 ∷ length c ∷ [])
     ∙ ap (λ (count : ℕ). filled (kind ++ (rows ++ (4 ∷ count ∷ []))) bytes) (sym (rows-of-length c d t (start .pre .0 .2) (start .pre .0 .3)))
 
 pub write-table-spec : {M : Type 1} → statement M

@@ -34,7 +34,9 @@ number-of-requires-2 : tie.Need-number-of-requires-2
 number-of-requires-2 c κs = search needs
 
 returns-2 : tie.Need-returns-2
-returns-2 c = refusal-answered (c .before .before .before .before .before .before .before .before .args .cores) (c .before .before .before .before .before .before .before .before .args .text .now) (c .before .before .before .before .before .before .before .before .args .lent .now) (read (c .before .before .before)) (c .before .before .certificate-of .ensures) (λ none. c .if2 .taken (c .before .number-of2 .ensures ∙ none))
+returns-2 c =
+    let args = c .before .before .before .before .before .before .before .before .args in
+    refusal-answered (args .cores) (args .text .now) (args .lent .now) (read (c .before .before .before)) (c .before .before .certificate-of .ensures) (λ none. c .if2 .taken (c .before .number-of2 .ensures ∙ none))
 
 -- the figures of its rows
 figures : (c : tie.Else2) → FiguresHeld (c .before .before .before .before .before .read-text .result) (c .before .before .certificate-of .result)
@@ -53,8 +55,9 @@ inside c = omega (arith, c .write-sheet .ensures .1, c .write-sheet .kept .1 .1 
 
 returns-3 : tie.Need-returns-3
 returns-3 c =
+    let args = c .before .before .before .before .before .before .before .before .before .before .before .before .args in
     let sheet = c .before .before .write-sheet in
-    sheet-too-long (c .before .before .before .before .before .before .before .before .before .before .before .before .args .cores) (c .before .before .before .before .before .before .before .before .before .before .before .before .args .text .now) (c .before .before .before .before .before .before .before .before .before .before .before .before .args .lent .now)
+    sheet-too-long (args .cores) (args .text .now) (args .lent .now)
     (read (c .before .before .before .before .before .before .before)) (figures (c .before .before .before .before)) (sheet .last .1 .1 .0) (sheet .result) (sheet .ensures .0) (inside (c .before .before)) (omega (arith, c .if3 .taken))
 
 array-share-prefix-sheet : tie.Need-array-share-prefix-sheet
@@ -71,9 +74,10 @@ same-length c = search needs
 
 returns-4 : tie.Need-returns-4
 returns-4 c =
+    let args = c .before .before .before .before .before .before .before .before .before .before .before .before .before .before .before .before .before .args in
     let written = c .before .before .before .before .before .before .before in
     let sheet = written .write-sheet in
-    sheet-put (c .before .before .before .before .before .before .before .before .before .before .before .before .before .before .before .before .before .args .cores) (c .before .before .before .before .before .before .before .before .before .before .before .before .before .before .before .before .before .args .text .now) (c .before .before .before .before .before .before .before .before .before .before .before .before .before .before .before .before .before .args .lent .now)
+    sheet-put (args .cores) (args .text .now) (args .lent .now)
     (read (c .before .before .before .before .before .before .before .before .before .before .before .before)) (figures (c .before .before .before .before .before .before .before .before .before)) (sheet .last .1 .1 .0) (sheet .result) (sheet .ensures .0) (inside written) (c .before .before .put-bytes .last .0) (omega arith) (c .before .before .put-bytes .ensures)
 
 pub text-service-spec : {M : Type 1} → statement M
