@@ -41,6 +41,21 @@ content-behind-quote text at begins = (ap (λ (quotes : List ℕ). at + length q
 pub content-at-once : (text : List ℕ) (at : ℕ) → beginsWith quote (drop at text) ≡ false → at ≤ length text → (at ≡ at + length (opening (drop at text))) × (at ≤ length text)
 content-at-once text at none inside = (omega (arith, ap length (not-opens (drop at text) none)), inside)
 
+-- by that place it is known whether a quote opens the field
+pub no-quote-opens : (text : List ℕ) (at content : ℕ) → content ≡ at + length (opening (drop at text)) → content ≡ at → beginsWith quote (drop at text) ≡ false
+no-quote-opens text at content begins same = go (beginsWith quote (drop at text)) begins
+  where
+    go : (opens : Bool) → content ≡ at + length (openingBy opens) → opens ≡ false
+    go true begins = absurd (omega (arith, begins, same))
+    go false begins = refl
+
+pub quote-opens : (text : List ℕ) (at content : ℕ) → content ≡ at + length (opening (drop at text)) → (content ≡ at → ⊥) → beginsWith quote (drop at text) ≡ true
+quote-opens text at content begins further = go (beginsWith quote (drop at text)) begins
+  where
+    go : (opens : Bool) → content ≡ at + length (openingBy opens) → opens ≡ true
+    go true begins = refl
+    go false begins = absurd (further (omega (arith, begins)))
+
 -- the place behind the field, where its content ends
 pub plain-ends : (text : List ℕ) (at end : ℕ) → beginsWith quote (drop at text) ≡ false → end ≤ length text → IsFieldEnd text at end (At end)
 plain-ends text at end none inside =

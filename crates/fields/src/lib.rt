@@ -1,4 +1,4 @@
-// The fields and lines of a text from a place on, each byte read once: document 02, request 2.
+// The fields and lines of a text from a place on, read once from the front: document 02, request 2.
 ghost use mathlib.Core.Path.{_≡_};
 ghost use Prim.Native.Nat.{_+_, _≤_, _<_};
 ghost use lib.ListN.{length, drop};
@@ -111,12 +111,12 @@ fn content_at(text: &[u8], at: usize) -> usize
     at
 }
 
-// Where the field at a place ends, whose content ends at another: behind the quote that closes it, where one opens it.
-fn field_end(text: &[u8], at: usize, end: usize) -> Place
-    requires { ⌜ end ≤ length (now text) ⌝ }
+// Where the field at a place ends, with content from a second place to a third: behind the quote that closes it, where one opens it.
+fn field_end(text: &[u8], at: usize, content: usize, end: usize) -> Place
+    requires { ⌜ (content ≡ at + length (opening (drop at (now text)))) × (end ≤ length (now text)) ⌝ }
     ensures { λ r. ⌜ IsFieldEnd (now (text .entry)) at end r ⌝ }
 {
-    if !stands_at(text, at, b'"') {
+    if content == at {
         return Place::At(end);
     }
     if !stands_at(text, end, b'"') {
@@ -136,7 +136,7 @@ fn read_number(text: &[u8], at: usize) -> Field
     if end == content {
         return Field::Broken;
     }
-    match field_end(text, at, end) {
+    match field_end(text, at, content, end) {
         Place::At(next) => Field::Number(digits.number, next),
         Place::Nowhere => Field::Broken,
     }
@@ -152,7 +152,7 @@ fn read_name(text: &[u8], at: usize, name: &[u8]) -> Place
     if many < name.len() {
         return Place::Nowhere;
     }
-    field_end(text, at, content + many)
+    field_end(text, at, content, content + many)
 }
 
 // The place behind a comma that stands at a place.
