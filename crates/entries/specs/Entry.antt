@@ -37,7 +37,7 @@ ListingReturned = ListingAnswered allowanceFit
 abbrev pub WhyReturned : List ℕ → List ℕ → List ℕ → ℕ → ℕ → ℕ → ℕ → ℕ → Type 0
 WhyReturned cs ds ts asked number row limiting point = BytesExplained cs ds ts asked (returned number row) limiting point
 
--- the entries on a sheet's text, a number of cores and lent bytes: number, row, how many bytes were written, and the lent bytes at the end; the certificate
+-- the entries on a spreadsheet's text, a number of cores and lent bytes: number, row, how many bytes were written, and the lent bytes at the end; the certificate
 abbrev pub TextReturned : ℕ → List ℕ → List ℕ → ℕ → ℕ → ℕ → List ℕ → Type 0
 TextReturned cores text lent number row written lent-after = TextAnswered allowanceFit cores text lent (returned number row) written lent-after
 

@@ -247,7 +247,7 @@ pub extern "C" fn hibalunduk_why(c: &[u8], d: &[u8], t: &[u8], row: u32) -> Entr
     }
 }
 
-// The certificate of a sheet's text on a number of cores: the text with three columns more.
+// The certificate of a spreadsheet's text on a number of cores: the text with three columns more.
 #[no_mangle]
 pub extern "C" fn hibalunduk_csv(cores: u32, text: &[u8], lent: &mut [u8]) -> EntryWritten
     ensures { λ r. ⌜ TextReturned cores (now (text .entry)) (now (lent .entry)) (r .number) (r .row) (r .length) (now (lent .exit)) ⌝ }
@@ -255,7 +255,7 @@ pub extern "C" fn hibalunduk_csv(cores: u32, text: &[u8], lent: &mut [u8]) -> En
     entry_written(spreadsheets::text_service(cores, text, lent))
 }
 
-// The table of a sheet's text on a number of cores, as bytes.
+// The table of a spreadsheet's text on a number of cores, as bytes.
 #[no_mangle]
 pub extern "C" fn hibalunduk_csv_table(cores: u32, text: &[u8], lent: &mut [u8]) -> EntryWritten
     ensures { λ r. ⌜ TextTableReturned cores (now (text .entry)) (now (lent .entry)) (r .number) (r .row) (r .length) (now (lent .exit)) ⌝ }

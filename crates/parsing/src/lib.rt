@@ -1,4 +1,4 @@
-// A sheet's text to a table in memory, or its refusal 9, 2, 3 or 4 with its row: document 02, request 2. The text is read once from the front, and no part of it is
+// A spreadsheet's text to a table in memory, or its refusal 9, 2, 3 or 4 with its row: document 02, request 2. The text is read once from the front, and no part of it is
 // copied.
 ghost use mathlib.Core.Path.{_≡_};
 ghost use Prim.Native.Nat.{_≤_};
@@ -27,14 +27,7 @@ fn line_number(line: usize) -> u32
 fn broken(line: usize) -> Read
     ensures { λ r. ⌜ r .answer ≡ LineBroken (inRowsPlace line) ⌝ }
 {
-    Read {
-        answer: Answer::LineBroken(line_number(line)),
-        cores: 0,
-        n: 0,
-        c: [0; 24],
-        d: [0; 24],
-        t: [0; 24],
-    }
+    reading::refused(Answer::LineBroken(line_number(line)))
 }
 
 // What the rows from the front are with one more behind n of them: the fault that they have already, or its own, or none.
@@ -78,7 +71,7 @@ fn judge_table(cores: u32, n: usize, fault: Answer) -> Answer
     fault
 }
 
-// Reads the lines behind the header, from a place on.
+// Reads the lines behind the header, from a place on. There is at least a byte for each line before it, so that a line's number is in range.
 fn read_rows(cores: u32, text: &[u8], start: usize) -> Read
     requires { ⌜ (1 ≤ start) × (start ≤ length (now text)) ⌝ }
     ensures { λ r. ⌜ IsRead (onCores cores (rowsFrom 2 (linesOf (drop start (now (text .entry)))))) r ⌝ }

@@ -31,7 +31,7 @@ fn as_number(byte: u8) -> usize
 }
 
 // A refusal, with no table.
-fn refused(answer: Answer) -> Read
+pub fn refused(answer: Answer) -> Read
     ensures { λ r. ⌜ r .answer ≡ answer ⌝ }
 {
     Read {

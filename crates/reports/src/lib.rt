@@ -27,7 +27,13 @@ fn write_figures(report: &mut [u8], at: usize, core: u32, response: u32, allowan
 }
 
 // Writes a kind 3 record for each row from a place on.
-fn write_rows(report: &mut [u8], at: usize, core: &[u32], response: &[u32], allowance: &[u32])
+fn write_all_figures(
+    report: &mut [u8],
+    at: usize,
+    core: &[u32],
+    response: &[u32],
+    allowance: &[u32],
+)
     requires { ⌜ (length (now response) ≡ length (now core)) × (length (now allowance) ≡ length (now core)) ⌝ }
     requires { ⌜ at + 10 * length (now core) ≤ length (now report) ⌝ }
     requires { ⌜ ((i : ℕ) → i < length (now core) → getD (now core) i 0 < 256) ⌝ }
@@ -55,7 +61,7 @@ pub fn write_report(
 {
     numbers::put_bytes(report, 0, records);
     let at = records.len();
-    write_rows(report, at, core, response, allowance);
+    write_all_figures(report, at, core, response, allowance);
     write_kind(report, at + 10 * core.len(), 4, core.len() as u8);
 }
 
@@ -71,7 +77,7 @@ fn write_row(bytes: &mut [u8], at: usize, c: u32, d: u32, t: u32)
 }
 
 // Writes a kind 2 record for each row from place 2 on.
-fn write_table_rows(bytes: &mut [u8], c: &[u32], d: &[u32], t: &[u32])
+fn write_rows(bytes: &mut [u8], c: &[u32], d: &[u32], t: &[u32])
     requires { ⌜ (length (now d) ≡ length (now c)) × (length (now t) ≡ length (now c)) ⌝ }
     requires { ⌜ 2 + 13 * length (now c) ≤ length (now bytes) ⌝ }
     ensures { λ _. ⌜ now (bytes .exit) ≡ take 2 (now (bytes .entry)) ++ flatMap rowRecord (rowsOf (now (c .entry)) (now (d .entry)) (now (t .entry))) ++ drop (2 + 13 * length (now (c .entry))) (now (bytes .entry)) ⌝ }
@@ -90,6 +96,6 @@ pub fn write_table(bytes: &mut [u8], cores: usize, c: &[u32], d: &[u32], t: &[u3
     ensures { λ _. ⌜ now (bytes .exit) ≡ filled (tableBytes (record { cores = cores; rows = rowsOf (now (c .entry)) (now (d .entry)) (now (t .entry)) })) (now (bytes .entry)) ⌝ }
 {
     write_kind(bytes, 0, 1, cores as u8);
-    write_table_rows(bytes, c, d, t);
+    write_rows(bytes, c, d, t);
     write_kind(bytes, 2 + 13 * c.len(), 4, c.len() as u8);
 }

@@ -1,4 +1,4 @@
--- What the services on a sheet's text return, and what their lent bytes hold at the end: document 02, request 2. The faults of reading in their order; then, for
+-- What the services on a spreadsheet's text return, and what their lent bytes hold at the end: document 02, request 2. The faults of reading in their order; then, for
 -- the certificate, 6 and then 7; for the table's bytes, 7.
 use mathlib.Core.Path.{_≡_}
 use Prim.Native.Nat.{ℕ, suc, _≤_, _<_}

@@ -1,1 +1,1 @@
-// What the services on table bytes and on a sheet's text promise, as definitions in `specs/`.
+// What the services on table bytes and on a spreadsheet's text promise, as definitions in `specs/`.

@@ -3,7 +3,7 @@ use mathlib.Core.Path.{_≡_, subst, sym}
 use Prim.Native.Nat.{_%_}
 use mathlib.Core.Bool.{_&&_}
 use mathlib.Core.Logic.{_⊎_, inl, inr}
-use mathlib.Core.List.{List, [], _∷_, map, List·Memᴰ, List·Memᴰ·cases-cons}
+use mathlib.Core.List.{List, [], _∷_, map, List·Memᴰ, List·Memᴰ·cases-cons, flatMap}
 use lib.Dec.{T, ltb, eqb, ltb→lt, eqb→eq}
 use Rattle.theory.specs.Row.{rowAt}
 use Rattle.theory.specs.Gather.{upFrom, keep, sum, every, insert, sort, best}
@@ -20,15 +20,17 @@ use Rattle.placement.specs.Order.{taken}
 use Rattle.placement.specs.Choice.{allowanceFit}
 use Rattle.placement.specs.Computed.{takes, candidateAt, takers, chosenOf, stepOf, run, figuresOf, certificateOf, certificate, responseOf}
 use Rattle.listing.specs.Listing.{ascii, headerLine, digitsBefore, decimal, rowLine, rowLines, smallestAllowance, systemAllowance, listing, refusal}
+use Rattle.records.specs.Number.{fourBytes}
+use Rattle.records.specs.Report.{tableRecords, tableBytes}
 use Rattle.texts.specs.Text.{inFront, linesOf, fieldsOf, held, numberFrom, numberIn, rowFrom, rowIn, names, sameBytes, hold, withRow, rowsFrom, headed, textOf as textIs}
 use Rattle.texts.specs.Table.{judged, tableFrom, inRowsPlace, onCores, readText}
 use Rattle.texts.specs.Forms.{joined}
 use Rattle.texts.specs.Columns.{lineOf, allNames, certifiedLine, certifiedLines, certifiedText}
-use Rattle.sheets.specs.Sheets.{Sheet, set-accepted, set-refused, below-one, walk-yields, points-as-set, bound-on, slack-at, quotient-at, order-taken, listed, table-refused, limited-by, why-refused, text-accepted, text-refused, Holds, sheets}
+use Rattle.sheets.specs.Sheets.{Sheet, set-accepted, set-refused, below-one, walk-yields, points-as-set, bound-on, slack-at, quotient-at, order-taken, listed, table-refused, limited-by, why-refused, text-accepted, text-refused, text-tabled, Holds, sheets}
 use Rattle.sheets.proofs.Test.{sameList, oneOf, isSet, isTable, textOf, refusesWith, missesFirst, refusesLate, isFirst, limitedAt, whyRefused, passes, allPass}
 use Rattle.sheets.proofs.Law.{same-list, same-signed, one-of, each-place, accepted-holds, misses-holds}
 use Rattle.sheets.proofs.Certificate.{listed-holds, refused-holds}
-use Rattle.sheets.proofs.TextCertificate.{text-accepted-holds, text-refused-holds}
+use Rattle.sheets.proofs.TextCertificate.{text-accepted-holds, text-refused-holds, text-tabled-holds}
 use Rattle.sheets.proofs.Explanation.{limited-holds, why-refused-holds}
 
 -- THE LAW
@@ -73,6 +75,7 @@ sheet-holds (why-refused rows asked number row) t =
     why-refused-holds rows (and-first (isSet rows) refuses t) asked number row (and-second (isSet rows) refuses t)
 sheet-holds (text-accepted cores text written) t = λ lent. text-accepted-holds cores text lent written t
 sheet-holds (text-refused cores text number row) t = λ lent. text-refused-holds cores text lent number row t
+sheet-holds (text-tabled cores text bytes) t = λ lent. text-tabled-holds cores text lent bytes t
 
 each-holds : (some : List Sheet) → T (allPass some) → (sheet : Sheet) → List·Memᴰ sheet some → Holds sheet
 unfolding allPass
@@ -85,7 +88,7 @@ each-holds (first ∷ others) t sheet m = go (each-holds others (and-second (pas
 
 -- the test, computed over the whole list
 all-pass : T (allPass sheets)
-unfolding sheets allPass passes sameList oneOf isSet isTable missesFirst refusesLate isFirst limitedAt whyRefused upFrom keep sum every insert sort best rivals levels ceil demand load climb outcome onTime lastMultiple walk points slack floorDiv times quotient bound pointAllowance allowance coreAllowance work coreRows placeOnCore taken takes candidateAt takers chosenOf stepOf run figuresOf certificateOf certificate ascii headerLine digitsBefore decimal rowLine rowLines smallestAllowance systemAllowance listing refusal inFront linesOf fieldsOf held numberFrom numberIn rowFrom rowIn names sameBytes hold withRow rowsFrom headed textIs judged tableFrom inRowsPlace onCores readText joined lineOf allNames certifiedLine certifiedLines certifiedText
+unfolding sheets allPass passes sameList oneOf isSet isTable missesFirst refusesLate isFirst limitedAt whyRefused upFrom keep sum every insert sort best rivals levels ceil demand load climb outcome onTime lastMultiple walk points slack floorDiv times quotient bound pointAllowance allowance coreAllowance work coreRows placeOnCore taken takes candidateAt takers chosenOf stepOf run figuresOf certificateOf certificate ascii headerLine digitsBefore decimal rowLine rowLines smallestAllowance systemAllowance listing refusal inFront linesOf fieldsOf held numberFrom numberIn rowFrom rowIn names sameBytes hold withRow rowsFrom headed textIs judged tableFrom inRowsPlace onCores readText joined lineOf allNames certifiedLine certifiedLines certifiedText fourBytes tableRecords tableBytes flatMap
 all-pass = tt
 
 -- EVERY SHEET HOLDS

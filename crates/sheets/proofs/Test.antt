@@ -20,9 +20,10 @@ use Rattle.placement.specs.Figures.{Certificate, certified, noCoreTakes}
 use Rattle.placement.specs.Computed.{responseOf, certificate}
 use Rattle.records.specs.Reading.{Reading}
 use Rattle.listing.specs.Listing.{listing, refusal}
+use Rattle.records.specs.Report.{tableBytes}
 use Rattle.texts.specs.Table.{readText}
 use Rattle.texts.specs.Columns.{certifiedText}
-use Rattle.sheets.specs.Sheets.{Sheet, set-accepted, set-refused, below-one, walk-yields, points-as-set, bound-on, slack-at, quotient-at, order-taken, listed, table-refused, limited-by, why-refused, text-accepted, text-refused}
+use Rattle.sheets.specs.Sheets.{Sheet, set-accepted, set-refused, below-one, walk-yields, points-as-set, bound-on, slack-at, quotient-at, order-taken, listed, table-refused, limited-by, why-refused, text-accepted, text-refused, text-tabled}
 
 -- whether two lists are the same
 unfoldable pub sameList : List ℕ → List ℕ → Bool
@@ -97,6 +98,11 @@ abbrev pub acceptedAs : Reading → List ℕ → Bool
 acceptedAs (Reading.table t) written = isTable t && writtenAs (t .rows) (certificate allowanceFit t) written
 acceptedAs (Reading.refused number row) written = false
 
+-- whether what a text is has these bytes as a table
+abbrev pub tabledAs : Reading → List ℕ → Bool
+tabledAs (Reading.table t) bytes = sameList (tableBytes t) bytes
+tabledAs (Reading.refused number row) bytes = false
+
 -- whether what a text is as a table is refused with a number and a row
 abbrev pub refusedAs : Reading → ℕ → ℕ → Bool
 refusedAs (Reading.table t) number row = isTable t && refusesWith (certificate allowanceFit t) number row
@@ -120,6 +126,7 @@ passes (limited-by rows row limiting p) = isSet rows && limitedAt rows row limit
 passes (why-refused rows asked number row) = isSet rows && whyRefused rows asked number row
 passes (text-accepted cores text written) = acceptedAs (readText cores text) written
 passes (text-refused cores text number row) = refusedAs (readText cores text) number row
+passes (text-tabled cores text bytes) = tabledAs (readText cores text) bytes
 
 -- whether every sheet of a list passes
 unfoldable pub allPass : List Sheet → Bool

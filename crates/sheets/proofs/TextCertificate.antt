@@ -1,6 +1,6 @@
 -- What the sheets on texts say, from the computed reading and certificate.
-use mathlib.Core.Path.{_≡_, refl, sym, subst}
-use Prim.Native.Nat.{ℕ, suc, _≤_}
+use mathlib.Core.Path.{_≡_, refl, subst}
+use Prim.Native.Nat.{ℕ, suc, _≤_, _<_}
 use mathlib.Core.Bool.{_&&_}
 use mathlib.Core.List.{List}
 use lib.Dec.{T, eqb, eqb→eq}
@@ -15,8 +15,9 @@ use Rattle.placement.specs.Computed.{certificate}
 use Rattle.records.specs.Reading.{Reading, table, refused}
 use Rattle.texts.specs.Table.{readText}
 use Rattle.texts.specs.Columns.{certifiedText}
-use Rattle.service.specs.Text.{TextAnswered}
-use Rattle.sheets.proofs.Test.{isTable, refusesWith, writtenAs, acceptedAs, refusedAs}
+use Rattle.records.specs.Report.{tableBytes}
+use Rattle.service.specs.Text.{TextAnswered, TextTabled}
+use Rattle.sheets.proofs.Test.{isTable, refusesWith, writtenAs, acceptedAs, refusedAs, tabledAs}
 use Rattle.sheets.proofs.Law.{same-list}
 use Rattle.sheets.proofs.Certificate.{is-certificate}
 
@@ -46,21 +47,33 @@ module _ (cores : ℕ) (text lent : List ℕ) where
       go (refused other-number other-row) reads same =
           subst RefusedWith (same-returned other-number other-row number row same) (TextAnswered.not-a-table other-number other-row reads)
 
-  -- what is written
+  -- what is written where it fits, and that it is too much where it does not
   abbrev Writes : List ℕ → Type 0
-  Writes written = TextAnswered allowanceFit cores text lent (returned 0 0) (length written) (filled written lent)
+  Writes written =
+      (length written ≤ length lent → TextAnswered allowanceFit cores text lent (returned 0 0) (length written) (filled written lent))
+      × (length lent < length written → RefusedWith (returned 7 0))
 
-  pub text-accepted-holds : (written : List ℕ) → T (acceptedAs (readText cores text) written) → length written ≤ length lent → Writes written
-  text-accepted-holds written accepts long = go (readText cores text) refl accepts
+  pub text-accepted-holds : (written : List ℕ) → T (acceptedAs (readText cores text) written) → Writes written
+  text-accepted-holds written accepts = go (readText cores text) refl accepts
     where
       writes : (t : Table) → readText cores text ≡ table t → (c : Certificate) → IsCertificate allowanceFit t c → T (writtenAs (t .rows) c written) → Writes written
       writes t reads (certified all) is same =
-          let columns = same-list (certifiedText (t .rows) all) written same in
-          subst Writes columns (TextAnswered.accepted t all reads is (subst (λ (bytes : List ℕ). length bytes ≤ length lent) (sym columns) long))
+          subst Writes (same-list (certifiedText (t .rows) all) written same) (TextAnswered.accepted t all reads is, TextAnswered.output-too-short t all reads is)
       writes t reads (noCoreTakes i) is same = absurd same
 
       go : (reading : Reading) → readText cores text ≡ reading → T (acceptedAs reading written) → Writes written
       go (table t) reads tests =
           let same = writtenAs (t .rows) (certificate allowanceFit t) written in
           writes t reads (certificate allowanceFit t) (is-certificate t (and-first (isTable t) same tests)) (and-second (isTable t) same tests)
+      go (refused number row) reads is-refused = absurd is-refused
+
+  -- the table's bytes
+  abbrev Tables : List ℕ → Type 0
+  Tables bytes = length bytes ≤ length lent → TextTabled cores text lent (returned 0 0) (length bytes) (filled bytes lent)
+
+  pub text-tabled-holds : (bytes : List ℕ) → T (tabledAs (readText cores text) bytes) → Tables bytes
+  text-tabled-holds bytes tabled = go (readText cores text) refl tabled
+    where
+      go : (reading : Reading) → readText cores text ≡ reading → T (tabledAs reading bytes) → Tables bytes
+      go (table t) reads same = subst Tables (same-list (tableBytes t) bytes same) (TextTabled.accepted t reads)
       go (refused number row) reads is-refused = absurd is-refused

@@ -88,7 +88,7 @@ module _ (answer : ℕ → List ℕ → List ℕ → Returned) (written : ℕ �
 
   on-accepted : (cores : ℕ) (text columns : List ℕ) → T (passes (text-accepted cores text columns)) → (bytes : List ℕ) → length columns ≤ length bytes → answer cores text bytes ≡ returned 0 0
   on-accepted cores text columns t bytes long =
-      text-answered-unique cores text bytes allowance-fit-is-rule (keeps cores text bytes) (sheet-holds (text-accepted cores text columns) t bytes long) .same-answer
+      text-answered-unique cores text bytes allowance-fit-is-rule (keeps cores text bytes) (sheet-holds (text-accepted cores text columns) t bytes .0 long) .same-answer
 
   pub numbers-modulo-2^32-are-shut-out :
       ((cores : ℕ) (text reduced bytes : List ℕ) (rows : List Row) → textOf text ≡ of-rows rows → textOf reduced ≡ of-rows (map modulo32 rows) → answer cores text bytes ≡ answer cores reduced bytes)

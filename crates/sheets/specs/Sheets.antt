@@ -17,7 +17,7 @@ use Rattle.placement.specs.Choice.{allowanceFit}
 use Rattle.records.specs.Report.{tableBytes, reportLength}
 use Rattle.listing.specs.Listing.{ascii}
 use Rattle.service.specs.Table.{TableAnswered, Listed}
-use Rattle.service.specs.Text.{TextAnswered}
+use Rattle.service.specs.Text.{TextAnswered, TextTabled}
 
 -- what a sheet says. Rows go by their places, which count from 0: place 1 is row 2. A refusal is its number and its row, which counts from 1; so do the rows
 -- of an explanation: the row asked about, and the row that limits it. A text stands behind its number of cores
@@ -37,6 +37,7 @@ pub data Sheet : Type 0 where
   why-refused : List Row → ℕ → ℕ → ℕ → Sheet
   text-accepted : ℕ → List ℕ → List ℕ → Sheet
   text-refused : ℕ → List ℕ → ℕ → ℕ → Sheet
+  text-tabled : ℕ → List ℕ → List ℕ → Sheet
 
 -- the three lists that a set's rows are
 abbrev pub executions : List Row → List ℕ
@@ -74,8 +75,11 @@ Holds (table-refused table number row) =
 Holds (limited-by rows asked limiting p) = Explained (executions rows) (deadlines rows) (periods rows) asked (returned 0 0) limiting p
 Holds (why-refused rows asked number row) = Explained (executions rows) (deadlines rows) (periods rows) asked (returned number row) 0 0
 Holds (text-accepted cores text written) =
-    (lent : List ℕ) → length written ≤ length lent → TextAnswered allowanceFit cores text lent (returned 0 0) (length written) (filled written lent)
+    (lent : List ℕ)
+    → (length written ≤ length lent → TextAnswered allowanceFit cores text lent (returned 0 0) (length written) (filled written lent))
+    × (length lent < length written → TextAnswered allowanceFit cores text lent (returned 7 0) 0 lent)
 Holds (text-refused cores text number row) = (lent : List ℕ) → TextAnswered allowanceFit cores text lent (returned number row) 0 lent
+Holds (text-tabled cores text bytes) = (lent : List ℕ) → length bytes ≤ length lent → TextTabled cores text lent (returned 0 0) (length bytes) (filled bytes lent)
 
 -- a row, written C/D/T in the document
 unfoldable pub row : ℕ → ℕ → ℕ → Row
@@ -184,6 +188,9 @@ sheets =
     ∷ text-refused 2 columnsOfTheFour 9 1
     -- sheet 4, whatever is lent: 6 before 7
     ∷ text-refused 2 textOfSheetFour 6 5
+    -- their tables' bytes, whether a core takes every row or not
+    ∷ text-tabled 2 textOfTheFour (tableBytes (record { cores = 2; rows = theFour }))
+    ∷ text-tabled 2 textOfSheetFour (tableBytes (record { cores = 2; rows = row 6 10 10 ∷ row 4 10 10 ∷ row 4 10 10 ∷ row 3 10 10 ∷ row 3 10 10 ∷ [] }))
     -- leading zeros, and a number that is 5 modulo 2^32
     ∷ text-accepted 1 (underHeader (ascii "00000000000000000005,5,5\n")) (ascii "wcet,deadline,period,core,response,allowance\r\n5,5,5,1,5,0\r\n")
     ∷ text-refused 1 (underHeader (ascii "4294967301,5,5\n")) 4 1

@@ -1,4 +1,4 @@
-// The services on a sheet's text: its certificate as a text with three columns more, and its table as bytes. Document 02, request 2.
+// The services on a spreadsheet's text: its certificate as a text with three columns more, and its table as bytes. Document 02, request 2.
 ghost use mathlib.Core.Path.{_≡_};
 ghost use Prim.Native.Nat.{_+_, _*_, _≤_};
 ghost use lib.ListN.{length, take};
@@ -21,11 +21,11 @@ pub struct Written {
     pub length: usize,
 }
 
-// Writes the text of a table that was read and of its figures at the front of a sheet.
-fn write_sheet(read: Read, certificate: Certificate, sheet: &mut [u8]) -> usize
+// Writes the text of a table that was read and of its figures at the front of another text.
+fn write_columns(read: Read, certificate: Certificate, text: &mut [u8]) -> usize
     requires { ⌜ Held (read .n) (read .c) (read .d) (read .t) × TableWithin (heldTable read) × Long certificate ⌝ }
-    requires { ⌜ 1654 ≤ length (now sheet) ⌝ }
-    ensures { λ r. ⌜ (take r (now (sheet .exit)) ≡ certifiedText (heldTable read .rows) (heldFigures (read .n) certificate)) × (r ≤ 1654) ⌝ }
+    requires { ⌜ 1654 ≤ length (now text) ⌝ }
+    ensures { λ r. ⌜ (take r (now (text .exit)) ≡ certifiedText (heldTable read .rows) (heldFigures (read .n) certificate)) × (r ≤ 1654) ⌝ }
 {
     let n = read.n;
     let c = read.c;
@@ -35,7 +35,7 @@ fn write_sheet(read: Read, certificate: Certificate, sheet: &mut [u8]) -> usize
     let response = certificate.response;
     let allowance = certificate.allowance;
     columns::write_text(
-        sheet,
+        text,
         &c[..n],
         &d[..n],
         &t[..n],
@@ -45,7 +45,7 @@ fn write_sheet(read: Read, certificate: Certificate, sheet: &mut [u8]) -> usize
     )
 }
 
-// The certificate of a text: the sheet is written aside first, since its length decides whether it fits.
+// The certificate of a text: the new text is written aside first, since its length decides whether it fits.
 pub fn text_service(cores: u32, text: &[u8], lent: &mut [u8]) -> Written
     ensures { λ r. ⌜ TextAnswered allowanceFit cores (now (text .entry)) (now (lent .entry)) (returnedBy (r .answer)) (r .length) (now (lent .exit)) ⌝ }
 {
@@ -62,15 +62,15 @@ pub fn text_service(cores: u32, text: &[u8], lent: &mut [u8]) -> Written
             length: 0,
         };
     }
-    let mut sheet = [0u8; 1654];
-    let length = write_sheet(read, certificate, &mut sheet);
+    let mut columns = [0u8; 1654];
+    let length = write_columns(read, certificate, &mut columns);
     if lent.len() < length {
         return Written {
             answer: Answer::OutputTooShort,
             length: 0,
         };
     }
-    numbers::put_bytes(lent, 0, &sheet[..length]);
+    numbers::put_bytes(lent, 0, &columns[..length]);
     Written {
         answer: Answer::Accepted,
         length,

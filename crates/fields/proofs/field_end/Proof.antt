@@ -23,5 +23,6 @@ returns-3 : tie.Need-returns-3
 returns-3 c =
     let start = c .before .before .before .before in
     quoted-ends (start .args .text .now) (start .args .at) (start .args .end) (quote-opens (start .args .text .now) (start .args .at) (start .args .content) (start .pre .0) (c .before .before .if1 .left)) (sym (c .before .stands-at .ensures) ∙ not-false _ (c .if2 .left))
+
 pub field-end-spec : {M : Type 1} → statement M
 field-end-spec = tie.close (tie.spec returns stands-at-requires returns-2 add-t7 returns-3)

@@ -15,8 +15,8 @@ use Rattle.reports.proofs.write_report.Tie as tie
 put-bytes-requires : tie.Need-put-bytes-requires
 put-bytes-requires c κs = search needs
 
-write-rows-requires : tie.Need-write-rows-requires
-write-rows-requires c κs =
+write-all-figures-requires : tie.Need-write-all-figures-requires
+write-all-figures-requires c κs =
     let first = c .before .before .before in
     let start = first .before .before .before .before .before .before .before in
     ((start .pre .0 .1, start .pre .0 .2), (omega (arith, start .pre .1 .0, first .put-bytes .kept .0), start .pre .1 .1))
@@ -49,11 +49,11 @@ returns c =
     let rows = flatMap figuresRecord (figuresFrom core response allowance) in
     let long = records-length core response allowance (start .pre .0 .1) (start .pre .0 .2) in
     let count : List ℕ = 4 ∷ length core ∷ [] in
-    three-written (start .args .report .now) (first .put-bytes .last .0) (second .write-rows .last .0) (third .write-kind .last .0)
+    three-written (start .args .report .now) (first .put-bytes .last .0) (second .write-all-figures .last .0) (third .write-kind .last .0)
     0 (length records) (length records + 10 * length core)
     records rows count
     (omega arith) (omega arith) (omega (arith, long))
-    (first .put-bytes .ensures) (rw long (second .write-rows .ensures)) (third .write-kind .ensures)
+    (first .put-bytes .ensures) (rw long (second .write-all-figures .ensures)) (third .write-kind .ensures)
     ∙ three-fill (start .args .report .now) records rows count
 
 pub write-report-spec : {M : Type 1} → statement M
@@ -61,7 +61,7 @@ write-report-spec =
     tie.close
     (tie.spec
     put-bytes-requires
-    write-rows-requires
+    write-all-figures-requires
     mul-write-kind
     add-write-kind
     cast-write-kind

@@ -19,8 +19,8 @@ cast-write-kind c = search needs
 write-kind-requires : tie.Need-write-kind-requires
 write-kind-requires c κs = search needs
 
-write-table-rows-requires : tie.Need-write-table-rows-requires
-write-table-rows-requires c κs = search needs
+write-rows-requires : tie.Need-write-rows-requires
+write-rows-requires c κs = search needs
 
 mul-write-kind : tie.Need-mul-write-kind
 mul-write-kind c = search needs
@@ -41,7 +41,7 @@ returns : tie.Need-returns
 unfolding tableBytes tableRecords
 returns c =
     let third = c .before .before .write-kind2 in
-    let second = c .before .before .before .before .before .before .write-table-rows in
+    let second = c .before .before .before .before .before .before .write-rows in
     let first = c .before .before .before .before .before .before .before .before .before .before .write-kind in
     let start = c .before .before .before .before .before .before .before .before .before .before .before .before .before .before .before .before in
     let args = start .args in
@@ -63,7 +63,7 @@ write-table-spec =
     (tie.spec
     cast-write-kind
     write-kind-requires
-    write-table-rows-requires
+    write-rows-requires
     mul-write-kind
     add-write-kind
     cast-write-kind-2

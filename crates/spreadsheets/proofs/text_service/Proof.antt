@@ -42,29 +42,29 @@ returns-2 c =
 figures : (c : tie.Else2) → FiguresHeld (c .before .before .before .before .before .read-text .result) (c .before .before .certificate-of .result)
 figures c = was-certified (read (c .before .before .before)) (c .before .before .certificate-of .ensures) (sym (c .before .number-of2 .ensures) ∙ c .if2 .left)
 
-slice-aggregate-write-sheet : tie.Need-slice-aggregate-write-sheet
-slice-aggregate-write-sheet c = search needs
+slice-aggregate-write-columns : tie.Need-slice-aggregate-write-columns
+slice-aggregate-write-columns c = search needs
 
-write-sheet-requires : tie.Need-write-sheet-requires
-write-sheet-requires c κs =
+write-columns-requires : tie.Need-write-columns-requires
+write-columns-requires c κs =
     let was-read = read (c .before .before .before .before) in ((was-read .held, was-read .within, figures (c .before) .long), search needs)
 
 -- the text is inside the sheet
-inside : (c : tie.After-write-sheet) → c .write-sheet .result ≤ length (c .write-sheet .last .1 .1 .0)
-inside c = omega (arith, c .write-sheet .ensures .1, c .write-sheet .kept .1 .1 .0)
+inside : (c : tie.After-write-columns) → c .write-columns .result ≤ length (c .write-columns .last .1 .1 .0)
+inside c = omega (arith, c .write-columns .ensures .1, c .write-columns .kept .1 .1 .0)
 
 returns-3 : tie.Need-returns-3
 returns-3 c =
     let args = c .before .before .before .before .before .before .before .before .before .before .before .before .args in
-    let sheet = c .before .before .write-sheet in
+    let sheet = c .before .before .write-columns in
     sheet-too-long (args .cores) (args .text .now) (args .lent .now)
     (read (c .before .before .before .before .before .before .before)) (figures (c .before .before .before .before)) (sheet .last .1 .1 .0) (sheet .result) (sheet .ensures .0) (inside (c .before .before)) (omega (arith, c .if3 .taken))
 
-array-share-prefix-sheet : tie.Need-array-share-prefix-sheet
-array-share-prefix-sheet c = search needs
+array-share-prefix-columns : tie.Need-array-share-prefix-columns
+array-share-prefix-columns c = search needs
 
 slice-aggregate-put-bytes : tie.Need-slice-aggregate-put-bytes
-slice-aggregate-put-bytes c = sym (length-take-le _ _ (array-share-prefix-sheet (c .before)))
+slice-aggregate-put-bytes c = sym (length-take-le _ _ (array-share-prefix-columns (c .before)))
 
 put-bytes-requires : tie.Need-put-bytes-requires
 put-bytes-requires c κs = omega (arith, slice-aggregate-put-bytes c)
@@ -76,7 +76,7 @@ returns-4 : tie.Need-returns-4
 returns-4 c =
     let args = c .before .before .before .before .before .before .before .before .before .before .before .before .before .before .before .before .before .args in
     let written = c .before .before .before .before .before .before .before in
-    let sheet = written .write-sheet in
+    let sheet = written .write-columns in
     sheet-put (args .cores) (args .text .now) (args .lent .now)
     (read (c .before .before .before .before .before .before .before .before .before .before .before .before)) (figures (c .before .before .before .before .before .before .before .before .before)) (sheet .last .1 .1 .0) (sheet .result) (sheet .ensures .0) (inside written) (c .before .before .put-bytes .last .0) (omega arith) (c .before .before .put-bytes .ensures)
 
@@ -90,10 +90,10 @@ text-service-spec =
     certificate-of-requires
     number-of-requires-2
     returns-2
-    slice-aggregate-write-sheet
-    write-sheet-requires
+    slice-aggregate-write-columns
+    write-columns-requires
     returns-3
-    array-share-prefix-sheet
+    array-share-prefix-columns
     slice-aggregate-put-bytes
     put-bytes-requires
     same-length

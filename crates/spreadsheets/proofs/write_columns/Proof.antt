@@ -1,11 +1,11 @@
--- `write_sheet` meets its contract: the fronts of the arrays are the rows and the figures.
+-- `write_columns` meets its contract: the fronts of the arrays are the rows and the figures.
 use mathlib.Core.Path.{sym}
 use native.Mathlib.Omega.{arith}
 use borrow.Author.Needs.{needs}
 use lib.Seq.{length-take-le}
 use Rattle.certifying.proofs.Stages.{held-shaped}
-use Rattle.spreadsheets.proofs.write_sheet.Statement.{statement}
-use Rattle.spreadsheets.proofs.write_sheet.Tie as tie
+use Rattle.spreadsheets.proofs.write_columns.Statement.{statement}
+use Rattle.spreadsheets.proofs.write_columns.Tie as tie
 
 array-share-prefix-c : tie.Need-array-share-prefix-c
 array-share-prefix-c c = search needs
@@ -62,8 +62,8 @@ same-length c = search needs
 returns : tie.Need-returns
 returns c = search needs
 
-pub write-sheet-spec : {M : Type 1} → statement M
-write-sheet-spec =
+pub write-columns-spec : {M : Type 1} → statement M
+write-columns-spec =
     tie.close
     (tie.spec
     array-share-prefix-c
