@@ -24,10 +24,10 @@ pub name-ordinary : (name : List ℕ) → T (every (leb 97) name) → All Ordina
 name-ordinary name letters = plain-ordinary name (all-map name (λ byte letter. let from-a = leb→le 97 byte letter in omega arith) (every-all (leb 97) name letters))
 
 -- a line, with what its fields are: its bytes are a line's own, and there are some
-record IsLine (Right : List (List ℕ) → Type 0) (line : List ℕ) : Type 0 where
-  own : All InLine line
-  not-empty : 1 ≤ length line
-  right : Right (fieldsOf line)
+pub record IsLine (Right : List (List ℕ) → Type 0) (line : List ℕ) : Type 0 where
+  pub own : All InLine line
+  pub not-empty : 1 ≤ length line
+  pub right : Right (fieldsOf line)
 
 three-fields-line :
     (Right : List (List ℕ) → Type 0) (first second third : List ℕ) → OrdinaryFields (first ∷ (second ∷ (third ∷ []))) → Right (first ∷ (second ∷ (third ∷ [])))
@@ -40,7 +40,7 @@ three-fields-line Right first second third own right = record {
 }
 
 -- the header's line is read as the header
-header-read : {line : List ℕ} → HeaderLine line → IsLine (λ fields. hold fields names ≡ true) line
+pub header-read : {line : List ℕ} → HeaderLine line → IsLine (λ fields. hold fields names ≡ true) line
 unfolding names ascii every
 header-read (header {wcet} {deadline} {period} w d p) =
     three-fields-line (λ fields. hold fields names ≡ true) wcet deadline period
@@ -48,7 +48,7 @@ header-read (header {wcet} {deadline} {period} w d p) =
     (names-held (two (field-holds refl w) (two (field-holds refl d) (two (field-holds refl p) no-parts))))
 
 -- a row's line is read as the row
-row-read : {row : Row} {line : List ℕ} → RowLine row line → IsLine (λ fields. rowIn fields ≡ some row) line
+pub row-read : {row : Row} {line : List ℕ} → RowLine row line → IsLine (λ fields. rowIn fields ≡ some row) line
 row-read {row} (numbers {c} {d} {t} is-c is-d is-t) =
     three-fields-line (λ fields. rowIn fields ≡ some row) c d t (number-field-ordinary is-c, (number-field-ordinary is-d, (number-field-ordinary is-t, tt)))
     (three-numbers-row refl (number-field-read is-c) (number-field-read is-d) (number-field-read is-t))

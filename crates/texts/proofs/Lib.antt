@@ -11,6 +11,7 @@ pub mod Joined
 pub mod Parted
 pub mod Zeros
 pub mod ReadForms
+pub mod FirstLine
 pub mod RoundTrip
 pub mod Judged
 pub mod Reading

@@ -58,19 +58,19 @@ number-field field n is-n = let behind = number-form (held field) n is-n in digi
 -- ---- lines
 
 -- a line whose fields are a row
-row-line : (line : List ℕ) (row : Row) → rowIn (fieldsOf line) ≡ some row → RowLine row line
+pub row-line : (line : List ℕ) (row : Row) → rowIn (fieldsOf line) ≡ some row → RowLine row line
 row-line line row is-row =
     let own = row-numbers (fieldsOf line) row is-row in
     subst (RowLine row) (sym (ap joined (own .three)) ∙ fields-joined line)
     (numbers (number-field (own .first) (row .C) (own .is-c)) (number-field (own .second) (row .D) (own .is-d)) (number-field (own .third) (row .T) (own .is-t)))
 
 -- a line whose fields hold the header's
-header-line : {fields : List (List ℕ)} (line : List ℕ) → fieldsOf line ≡ fields → Pairwise Holds fields (ascii "wcet" ∷ (ascii "deadline" ∷ (ascii "period" ∷ []))) → HeaderLine line
+pub header-line : {fields : List (List ℕ)} (line : List ℕ) → fieldsOf line ≡ fields → Pairwise Holds fields (ascii "wcet" ∷ (ascii "deadline" ∷ (ascii "period" ∷ []))) → HeaderLine line
 header-line line same (two w (two d (two p no-parts))) = subst HeaderLine (sym (ap joined same) ∙ fields-joined line) (header (field-of w) (field-of d) (field-of p))
 
 -- ---- the text
 
-no-form-no-rows : {line : ℕ} {rows : List Row} → not-of-the-form line ≡ of-rows rows → ⊥
+pub no-form-no-rows : {line : ℕ} {rows : List Row} → not-of-the-form line ≡ of-rows rows → ⊥
 no-form-no-rows same = let z : _≡_ {A = ℕ} 0 1 = cc in omega arith
 
 -- lines that are rows

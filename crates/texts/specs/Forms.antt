@@ -1,10 +1,10 @@
 -- Every way in which a table may be written as a text: RFC 4180's grammar, cut down to a header and rows of three numbers.
-use Prim.Native.Nat.{ℕ}
+use Prim.Native.Nat.{ℕ, zero, suc, _-_, _<_}
 use mathlib.Core.List.{List, [], _∷_, _++_}
-use lib.ListN.{replicate}
+use lib.ListN.{getD, replicate}
 use Rattle.theory.specs.Row.{Row}
 use Rattle.listing.specs.Listing.{ascii, decimal}
-use Rattle.texts.specs.Text.{LF, CR, quote, comma}
+use Rattle.texts.specs.Text.{LF, CR, quote, comma, linesOf}
 
 -- the byte of the digit 0
 abbrev pub digitZero : ℕ
@@ -56,3 +56,18 @@ pub data RowLines : List Row → List ℕ → Type 0 where
 -- A TEXT THAT IS A TABLE'S ROWS: the header's line, then theirs
 pub data Written : List Row → List ℕ → Type 0 where
   written : {line others rest : List ℕ} {rows : List Row} → HeaderLine line → Behind others rest → RowLines rows others → Written rows (line ++ rest)
+
+-- a line of the form, by its number: line 1 is the header, every other line is a row
+abbrev pub OfTheForm : ℕ → List ℕ → Type 0
+OfTheForm zero line = ⊥
+OfTheForm (suc zero) line = HeaderLine line
+OfTheForm (suc (suc others)) line = (row : Row) × RowLine row line
+
+-- the line of a text at a place, from 0; it is empty where there is none
+abbrev pub lineAt : List ℕ → ℕ → List ℕ
+lineAt text place = getD (linesOf text) place []
+
+-- the number of the first line that is not of the form
+pub record FirstNotOfTheForm (text : List ℕ) (number : ℕ) : Type 0 where
+  pub earlier-are : (place : ℕ) → suc place < number → OfTheForm (suc place) (lineAt text place)
+  pub it-is-not : OfTheForm number (lineAt text (number - 1)) → ⊥
