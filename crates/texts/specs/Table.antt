@@ -33,5 +33,6 @@ unfoldable pub onCores : ℕ → Text → Reading
 onCores cores (of-rows all) = tableFrom cores all
 onCores cores (not-of-the-form line) = refused 9 (inRowsPlace line)
 
+-- what a text's bytes are, on a number of cores
 unfoldable pub readText : ℕ → List ℕ → Reading
 readText cores text = onCores cores (textOf text)
