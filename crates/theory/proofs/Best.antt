@@ -54,6 +54,7 @@ module _ {A : Type 0} (better : A → A → Bool) where
       (fails : (next z : A) → better next z ≡ false → Under next z) where
     -- the best is as good as each of the others
     over_others : (first : A) (others : List A) (y : A) → Memᴰ y others → Under y (best better first others)
+    over_others first [] y x' = elim x' [ ]
     over_others first (next ∷ others) y (Memᴰ.head e) =
         subst (λ (x : A). Under x (best better first (next ∷ others))) (sym e)
         (best_cases (Under next) first next others (λ t. best_keeps (Under next) (kept next) next others (reflexive next)) (λ t. best_keeps (Under next) (kept next) first others (fails next first t)))

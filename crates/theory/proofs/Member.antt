@@ -35,6 +35,7 @@ pub record ValueOf {A : Type 0} (f : ℕ → A) (xs : List ℕ) (y : A) : Type 0
 
 -- each of a function's values is its value at a member
 pub mem_of_map : {A : Type 0} (f : ℕ → A) (xs : List ℕ) {y : A} → Memᴰ y (map f xs) → ValueOf f xs y
+mem_of_map {A = A} f [] {y = y} x' = elim x' [ ]
 mem_of_map f (x ∷ xs) (Memᴰ.head e) = record { at = x; among = Memᴰ.head refl; value = sym e }
 mem_of_map f (x ∷ xs) (Memᴰ.tail m) = let v = mem_of_map f xs m in record { at = v.at; among = Memᴰ.tail v.among; value = v.value }
 
