@@ -1,4 +1,6 @@
 // The answers of the services: document 01, "Refusal numbers", and what document 02 adds. `specs/` says what number and row each returns.
+#![tactic(auto)]
+
 ghost use Rattle.std.specs.Prelude.{◌≡◌};
 ghost use Rattle.answers.specs.Answer.{number_of, row_of};
 

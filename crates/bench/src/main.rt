@@ -1,4 +1,6 @@
 // The bench program of document 01, "The listing": reads a table from standard input and prints its listing, or the line of its refusal.
+#![tactic(auto)]
+
 ghost use Rattle.std.specs.Prelude.{◌≤◌, length};
 ghost use Rattle.bench.specs.Input.{InFront};
 ghost use Rattle.bench.specs.Lines.{HasLines};

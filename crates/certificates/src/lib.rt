@@ -1,5 +1,7 @@
 // The certificate of a table in memory: for each row its core, its response time and its allowance, or the row that no core takes. Document 01, "Placement" and
 // "Allowance".
+#![tactic(auto)]
+
 ghost use Rattle.std.specs.Prelude.{◌≤◌};
 ghost use Rattle.theory.specs.Row.{AllWithin};
 ghost use Rattle.theory.specs.Lists.{Shaped, rows_of};

@@ -1,4 +1,6 @@
 // From a table that was read to its certificate: what the services on bytes and on text have in common. It knows neither.
+#![tactic(auto)]
+
 ghost use Rattle.records.specs.Reading.{TableWithin};
 ghost use Rattle.reading.specs.Held.{Held, held_table};
 ghost use Rattle.certificates.specs.Held.{IsHeld};

@@ -1,4 +1,6 @@
 // The choice between candidates: document 01, "Placement". The rule of choice stands here alone.
+#![tactic(auto)]
+
 ghost use Rattle.std.specs.Prelude.{◌≡◌};
 ghost use Rattle.placement.specs.Choice.{allowance_fit};
 ghost use Rattle.choices.specs.Among.{counted};

@@ -1,5 +1,7 @@
 // The text of a certified table as bytes: document 02, request 2. Each writer puts its bytes behind the first `at` bytes of a text, and returns how many bytes
 // then stand at its front.
+#![tactic(auto)]
+
 ghost use Rattle.std.specs.Prelude.{◌≡◌, ◌+◌, ◌*◌, ◌≤◌, [], ◌∷◌, ◌++◌, length, take};
 ghost use Rattle.theory.specs.Lists.{Shaped, rows_of};
 ghost use Rattle.placement.specs.Figures.{figures_from};

@@ -1,4 +1,6 @@
 // The rows of a core, by their places in the table: joined by another, and kept for each core. Document 01, "Placement".
+#![tactic(auto)]
+
 ghost use Rattle.std.specs.Prelude.{◌≡◌, suc, ◌≤◌, ◌<◌, ltb, length, take, drop, set};
 ghost use Rattle.theory.specs.Gather.{insert};
 ghost use Rattle.cores.specs.Cores.{HoldsCores, HeldWithout};

@@ -1,4 +1,6 @@
 // What rows above another ask for up to a time: the sum of document 01, "Rank and response time", on lists of C and T.
+#![tactic(auto)]
+
 ghost use Rattle.std.specs.Prelude.{◌≡◌, ◌≤◌};
 ghost use Rattle.theory.specs.Response.{ceil};
 ghost use Rattle.demands.specs.Levels.{demand_of, Small};

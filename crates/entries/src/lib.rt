@@ -1,5 +1,7 @@
 // The services for the front end in C, on numbers and byte strings: document 01, "What the certificate covers", and document 02, requests 1 and 2. A byte string is a
 // pointer and a length in C; what C owes is that there are so many bytes, and that a lent byte string overlaps no other.
+#![tactic(auto)]
+
 ghost use Rattle.std.specs.Prelude.{◌≡◌, true, ◌↔◌, ◌/◌, ◌≤◌, min};
 ghost use Rattle.answers.specs.Answer.{returned_by, number_of, row_of};
 ghost use Rattle.theory.specs.Lists.{Answered};

@@ -1,4 +1,6 @@
 // The fields and lines of a text from a place on, read once from the front: document 02, request 2.
+#![tactic(auto)]
+
 ghost use Rattle.std.specs.Prelude.{◌≡◌, ◌+◌, ◌≤◌, ◌<◌, length, drop};
 ghost use Rattle.theory.specs.Gather.{All};
 ghost use Rattle.texts.specs.Text.{is_digit, begins_with};

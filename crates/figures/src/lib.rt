@@ -1,4 +1,6 @@
 // The response time and the allowance of each placed row: document 01, "Rank and response time" and "Allowance", core by core.
+#![tactic(auto)]
+
 ghost use Rattle.std.specs.Prelude.{◌≡◌, ℕ, ◌≤◌, ◌<◌, map, length, get_or, take};
 ghost use Rattle.theory.specs.Gather.{All};
 ghost use Rattle.theory.specs.Row.{row_at, AllWithin};

@@ -1,5 +1,7 @@
 // Whether a core takes rows, and its core allowance with them: document 01, "Placement". Few rows are judged by points, more by short climbs, and by
 // points where a climb takes too many rounds.
+#![tactic(auto)]
+
 ghost use Rattle.std.specs.Prelude.{◌≡◌, ◌≤◌, length, take};
 ghost use Rattle.theory.specs.Row.{AllWithin};
 ghost use Rattle.theory.specs.Climb.{LeastRoom, Start};

@@ -1,5 +1,7 @@
 // The lines of the listing as bytes: document 01, "The listing". Each writer puts its bytes behind the first `at` bytes of a text, and returns how many bytes
 // then stand at its front.
+#![tactic(auto)]
+
 ghost use Rattle.std.specs.Prelude.{◌≡◌, ◌+◌, ◌*◌, ◌≤◌, [], ◌∷◌, ◌++◌, ltb, length, get_or, take, drop};
 ghost use Rattle.theory.specs.Gather.{best};
 ghost use Rattle.answers.specs.Answer.{number_of, row_of};

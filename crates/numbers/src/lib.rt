@@ -1,4 +1,6 @@
 // Bytes, numbers of four bytes and lists of them, read from a byte string and written into one: document 01, "Records", and lists passed as bytes.
+#![tactic(auto)]
+
 ghost use Rattle.std.specs.Prelude.{◌≡◌, ◌+◌, ◌*◌, ◌/◌, ◌≤◌, ◌<◌, ◌++◌, length, take, drop};
 ghost use Rattle.theory.specs.Lists.{filled};
 ghost use Rattle.records.specs.Number.{number_at, four_bytes};

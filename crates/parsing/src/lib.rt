@@ -1,5 +1,7 @@
 // A spreadsheet's text to a table in memory, or its refusal 9, 2, 3 or 4 with its row: document 02, request 2. The text is read once from the front, and no part of it is
 // copied.
+#![tactic(auto)]
+
 ghost use Rattle.std.specs.Prelude.{◌≡◌, ◌≤◌, length, drop, set};
 ghost use Rattle.reading.specs.Held.{IsRead};
 ghost use Rattle.answers.specs.declared.Answer.TheVariants.{LineBroken};

@@ -1,4 +1,6 @@
 // The placement of a table's rows: document 01, "Placement", Allowance-Fit-Decreasing on a table in memory.
+#![tactic(auto)]
+
 ghost use Rattle.std.specs.Prelude.{◌≡◌, ◌≤◌, ◌<◌, map, ltb, length, replicate};
 ghost use Rattle.theory.specs.Gather.{insert, All};
 ghost use Rattle.theory.specs.Row.{AllWithin, row_at};

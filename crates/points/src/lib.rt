@@ -1,4 +1,6 @@
 // Allowances by the point formula: each row's bounds from its walk, and of the bounds on a row the smallest. Document 01, "Scheduling points".
+#![tactic(auto)]
+
 ghost use Rattle.std.specs.Prelude.{◌≡◌, ℕ, ◌≤◌, ◌<◌, pos, length, get_or, take, set};
 ghost use Rattle.theory.specs.Gather.{All};
 ghost use Rattle.theory.specs.Moved.{LoweredTo, smaller};

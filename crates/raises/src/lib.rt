@@ -1,4 +1,6 @@
 // The largest raise of one row with which another still meets: document 01, "Allowance", for two rows, by climbs of a limited number of rounds, on lists of C and T.
+#![tactic(auto)]
+
 ghost use Rattle.std.specs.Prelude.{◌≤◌};
 ghost use Rattle.theory.specs.Climb.{LeastRoom, Start};
 ghost use Rattle.demands.specs.Levels.{load_of, Small};

@@ -1,4 +1,6 @@
 // Table bytes to a table in memory, or their refusal 1 to 5 with its row: document 01, "Records" and "Refusal numbers".
+#![tactic(auto)]
+
 ghost use Rattle.std.specs.Prelude.{◌≡◌, ◌≤◌, [], length, drop};
 ghost use Rattle.records.specs.Reading.{read_rows, read_table};
 ghost use Rattle.reading.specs.Next.{IsCount, IsNext};

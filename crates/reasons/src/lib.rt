@@ -1,4 +1,6 @@
 // Why an allowance is not larger: the row that limits it, and the point at which it does. Document 02, request 1, by points, on the rows by rank.
+#![tactic(auto)]
+
 ghost use Rattle.std.specs.Prelude.{◌≡◌, ℕ, ◌≤◌, ◌<◌, length, get_or, take};
 ghost use mathlib.Core.List.{Memᴰ};
 ghost use Rattle.theory.specs.Row.{AllWithin};

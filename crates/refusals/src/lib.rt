@@ -1,4 +1,6 @@
 // The checks of lists before any climb: refusals 3, 4 and 7 of document 01, in this order.
+#![tactic(auto)]
+
 ghost use Rattle.std.specs.Prelude.{◌≡◌, ℕ, ◌≤◌, ◌<◌, length};
 ghost use Rattle.theory.specs.Row.{within_limits, WithinLimits, row_at};
 ghost use Rattle.theory.specs.Lists.{Shaped, rows_of};

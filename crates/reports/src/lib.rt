@@ -1,4 +1,6 @@
 // The bytes of a table and of a report into a lent byte string: document 01, "Records". A report's kind 1 and kind 2 records come as the bytes that they are.
+#![tactic(auto)]
+
 ghost use Rattle.std.specs.Prelude.{◌≡◌, ℕ, ◌+◌, ◌*◌, ◌≤◌, ◌<◌, length, get_or, take, drop};
 ghost use mathlib.Core.List.{[], ◌∷◌, ◌++◌, flat_map};
 ghost use Rattle.theory.specs.Lists.{rows_of, filled};

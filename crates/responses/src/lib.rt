@@ -1,4 +1,6 @@
 // The response time of each row of a set, or the highest-ranked row that misses: document 01, "Rank and response time".
+#![tactic(auto)]
+
 ghost use Rattle.std.specs.Prelude.{◌≡◌, length, take};
 ghost use Rattle.theory.specs.Row.{AllWithin};
 ghost use Rattle.theory.specs.Lists.{Shaped, rows_of};

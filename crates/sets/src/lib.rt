@@ -1,5 +1,7 @@
 // The set service and the point service: document 01, one core's rows as three lists of 32-bit numbers, response times and allowances in two lent lists. And the
 // explanation of a row's allowance: document 02, request 1, on the same three lists.
+#![tactic(auto)]
+
 ghost use Rattle.std.specs.Prelude.{◌≡◌, ◌≤◌, length, take};
 ghost use Rattle.theory.specs.Row.{AllWithin};
 ghost use Rattle.theory.specs.Lists.{Shaped, rows_of, filled, SetAnswered, PointAnswered};

@@ -1,4 +1,6 @@
 // The services on a spreadsheet's text: its certificate as a text with three columns more, and its table as bytes. Document 02, request 2.
+#![tactic(auto)]
+
 ghost use Rattle.std.specs.Prelude.{◌≡◌, ◌+◌, ◌*◌, ◌≤◌, length, take};
 ghost use Rattle.answers.specs.Answer.{returned_by};
 ghost use Rattle.theory.specs.Lists.{filled};

@@ -1,4 +1,6 @@
 // The table service, from table bytes to report bytes, and the listing of a table: document 01, "Records", "Refusal numbers" and "The listing".
+#![tactic(auto)]
+
 ghost use Rattle.std.specs.Prelude.{◌≤◌, length, take};
 ghost use Rattle.answers.specs.Answer.{returned_by};
 ghost use Rattle.placement.specs.Choice.{allowance_fit};

@@ -1,4 +1,6 @@
 // Allowances by trial of the definition: one row is raised, and only the rows that the raise touches are climbed, the lowest in rank first.
+#![tactic(auto)]
+
 ghost use Rattle.std.specs.Prelude.{◌≡◌, true, false, ℕ, ◌<◌, length, get_or, take};
 ghost use Rattle.theory.specs.Row.{AllWithin};
 ghost use Rattle.theory.specs.Allowance.{IsAllowance};

@@ -1,4 +1,6 @@
 // The walk over a row's points: document 01, "Scheduling points". It visits each distinct point once, in ascending order, and keeps the greatest quotients.
+#![tactic(auto)]
+
 ghost use Rattle.std.specs.Prelude.{◌≡◌, ◌≤◌, ◌<◌, max, pos, nat_abs, ◌-ℤ◌, ◌≤ℤ◌, length, get_or, set};
 ghost use Rattle.theory.specs.Moved.{greater};
 ghost use Rattle.theory.specs.Points.{floor_div, last_multiple};
