@@ -26,7 +26,7 @@ passed_digit byte passes = let both = both_pass (leb 48 byte) (leb byte 57) pass
 digits_in_front : (n : ℕ) (digits bytes : List ℕ) → All IsDigit digits → number_from n (digits ++ bytes) ≡ number_from (decimal_from n digits) bytes
 unfolding number_from decimal_from
 digits_in_front n [] bytes are_digits = refl
-digits_in_front n (digit ∷ digits) bytes are_digits = rw (digit_passes digit are_digits.0, number_from) (digits_in_front _ digits bytes are_digits.1)
+digits_in_front n (digit ∷ digits) bytes are_digits = rw (digit_passes digit are_digits.0, number_from) (digits_in_front (n * 10 + (digit - 48)) digits bytes are_digits.1)
 
 -- the bytes of a number are digits
 pub number_of_digits : (n : ℕ) (bytes : List ℕ) → IsSome (number_from n bytes) → All IsDigit bytes

@@ -1,5 +1,6 @@
--- The sum is what the first j rows ask for.
-use Rattle.std.proofs.Common.{length, ◌-◌}
+-- `demands::demand` meets its contract. The loop's invariant: the sum is what the first j rows ask for.
+use Prim.Native.Nat.{◌-◌}
+use lib.ListN.{length}
 use Rattle.demands.proofs.Asked.{AskedUpTo}
 use Rattle.demands.proofs.demand.Given as goal
 
