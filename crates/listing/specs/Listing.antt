@@ -1,7 +1,6 @@
 -- The lines that the bench program prints, as bytes: document 01, "The listing". Each line ends in a newline, the last too.
 use Rattle.std.specs.Prelude.{ℕ, zero, suc, ◌+◌, ◌/◌, ◌%◌, min, true, false, List, [], ◌∷◌, ◌++◌, ltb}
 use Prim.Native.Char.{code}
-use Prim.Native.String as String
 use Prim.Native.String.{String}
 use Rattle.placement.specs.Figures.{Figures}
 

@@ -1,5 +1,5 @@
 -- Refusal 9 names the first line that is not of the grammar.
-use mathlib.Core.Path.{◌≡◌, refl, sym, ap, subst, ◌∙◌}
+use mathlib.Core.Path.{◌≡◌, refl, sym, subst, ◌∙◌}
 use Prim.Native.Nat.{ℕ, zero, suc, ◌+◌, ◌-◌, ◌≤◌, ◌<◌}
 use native.Mathlib.Omega.{arith}
 use mathlib.Core.Bool.{Bool, true, false, true≢false}
@@ -8,7 +8,7 @@ use mathlib.Core.Option.{Option, none, some, none-ne-some}
 use lib.ListN.{get_or}
 use Rattle.theory.specs.Row.{Row}
 use Rattle.texts.specs.Text.{Text, lines_of, fields_of, row_in, names, hold, of_rows, not_of_the_form, with_row, rows_from, headed, text_of}
-use Rattle.texts.specs.Forms.{HeaderLine, RowLine, OfTheForm, FirstNotOfTheForm}
+use Rattle.texts.specs.Forms.{RowLine, OfTheForm, FirstNotOfTheForm}
 use Rattle.texts.proofs.ThreeFields.{held_names}
 use Rattle.texts.proofs.Forms.{header_read, row_read}
 use Rattle.texts.proofs.ReadForms.{row_line, header_line_lem, no_form_no_rows}

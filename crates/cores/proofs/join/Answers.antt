@@ -1,6 +1,5 @@
 use mathlib.Core.Path.{◌∙◌, ap}
-use Prim.Native.Nat.{suc, ◌+◌, ◌-◌}
-use mathlib.Core.Logic.{⊎_elim}
+use Prim.Native.Nat.{suc, ◌+◌}
 use native.Mathlib.Omega.{arith}
 use borrow.Author.Tests.{lt-ltb, le-ltb}
 use lib.Dec.{ltb}
@@ -9,6 +8,7 @@ use Rattle.theory.specs.Gather.{insert}
 use Rattle.theory.proofs.Member.{all_from}
 use Rattle.theory.proofs.InPlace.{putting_begins, putting_moves, putting_ends_before, putting_ends_last}
 use Rattle.cores.proofs.join.Goals as goal
+use Rattle.cores.proofs.join.Goals.{else-loop-j-test, then-loop-j-test+then-i-next}
 
 pub loop-j-init : goal.loop-j-init
 loop-j-init c =
@@ -29,10 +29,11 @@ returns c =
     let joined = c.loop-j.joined in
     let j = c.loop-j.j in
     let i = c.args.i in record {
-      result_value = ⊎_elim
-          (λ w. putting_ends_last c.loop-j.invariant.1 (omega arith))
-          (λ w. putting_ends_before c.loop-j.invariant.1 (omega arith) (lt-ltb i (get_or joined (j + 1) 0) w.1.taken))
-          c.loop-j-test.branch
+      result_value =
+          elim c.loop-j-test.branch [
+            | else-loop-j-test w ↦ putting_ends_last c.loop-j.invariant.1 (omega arith)
+            | then-loop-j-test+then-i-next w ↦ putting_ends_before c.loop-j.invariant.1 (omega arith) (lt-ltb i (get_or joined (j + 1) 0) w.if-i-next.true)
+          ]
           ∙ ap (insert ltb i) c.behind_one-joined.ensures.result_value;
       result_len = length-set joined j i ∙ c.loop-j.invariant.0;
     }

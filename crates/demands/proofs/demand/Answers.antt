@@ -1,4 +1,4 @@
-use Prim.Native.Nat.{◌-◌, ◌*◌, ◌≤◌}
+use Prim.Native.Nat.{◌*◌, ◌≤◌}
 use native.Mathlib.Omega.{arith}
 use lib.ListN.{get_or}
 use Rattle.demands.proofs.Asked.{none_asked, next_asked, one_more_asked, all_asked}

@@ -1,5 +1,4 @@
 use mathlib.Core.Path.{sym, ◌∙◌}
-use Prim.Native.Nat.{◌-◌}
 use native.Mathlib.Omega.{arith}
 use borrow.Author.Count.{below_more}
 use borrow.Author.Tests.{not-true, not-false}
@@ -45,7 +44,7 @@ loop-k-preserved c =
 
 pub returns : goal.returns
 returns c = record {
-      within = omega arith;
-      before = c.loop-k.invariant.1;
-      broken = λ inside. absurd (omega arith);
-    }
+  within = omega arith;
+  before = c.loop-k.invariant.1;
+  broken = λ inside. absurd (omega arith);
+}
