@@ -64,7 +64,7 @@ match_goes_on text at name many so_far left stands =
 -- where the byte at a place is no digit, or there is none, the digits stop
 pub digits_stop : (text : List ℕ) (end : ℕ) → end < length text → is_digit (get_or text end 0) ≡ false
     → (byte : ℕ) (others : List ℕ) → drop end text ≡ byte ∷ others → is_digit byte ≡ false
-digits_stop text end inside none byte others begins = ap is_digit (ap (λ rest. get_or rest 0 0) (sym begins ∙ one_byte text end inside)) ∙ none
+digits_stop text end inside none first others begins = ap is_digit (ap (λ rest. get_or rest 0 0) (sym begins ∙ one_byte text end inside)) ∙ none
 
 pub text_stops : (text : List ℕ) (end : ℕ) → length text ≤ end → (byte : ℕ) (others : List ℕ) → drop end text ≡ byte ∷ others → is_digit byte ≡ false
-text_stops text end past byte others begins = absurd (nil≢cons (sym (drop_of_length-le text past) ∙ begins))
+text_stops text end past first others begins = absurd (nil≢cons (sym (drop_of_length-le text past) ∙ begins))
