@@ -9,7 +9,7 @@ ghost use Rattle.reading.specs.Held.{IsRead};
 use answers::Answer;
 
 // What is read: Accepted and the table, n rows at the fronts of the arrays; or a refusal.
-#[derive(Drop)]
+#[derive(Clone, Copy)]
 pub struct Read {
     pub answer: Answer,
     pub cores: usize,
@@ -20,7 +20,7 @@ pub struct Read {
 }
 
 // What a record behind kind 1 is: one more row, with its C, D and T, or the end of the reading and its answer.
-#[derive(Drop)]
+#[derive(Clone, Copy)]
 enum Next {
     GoesOn(u32, u32, u32),
     Ends(Answer),
