@@ -1,0 +1,20 @@
+-- `write_text` meets its contract: the header, and the lines behind it.
+use native.Mathlib.Omega.{arith}
+use Rattle.theory.specs.Lists.{rows_of}
+use Rattle.placement.specs.Figures.{figures_from}
+use Rattle.listing.specs.Listing.{ascii}
+use Rattle.texts.specs.Text.{names}
+use Rattle.texts.specs.Forms.{joined}
+use Rattle.texts.specs.Columns.{line_of, all_names}
+use Rattle.columns.proofs.Written.{text_written}
+use Rattle.columns.proofs.write_text.Goals as goal
+
+pub returns : goal.returns
+unfolding joined line_of all_names names ascii
+returns c =
+    let args = c.args in
+    let header = c.write_bytes-end.ensures in
+    let rows = c.write_lines.ensures in (
+      text_written (rows_of args.c.now args.d.now args.t.now) (figures_from args.core.now args.response.now args.allowance.now) header.0 rows.0,
+      omega (arith, c.requires, header.1, rows.1),
+    )
