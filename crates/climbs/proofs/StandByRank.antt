@@ -2,7 +2,7 @@
 -- where its climb may start when the rows are climbed one after another.
 use mathlib.Core.Path.{◌≡◌, refl, sym, ◌∙◌}
 use Prim.Native.Nat.{ℕ, ◌+◌, ◌≤◌, ◌<◌, zero-le}
-use mathlib.Core.List.{List}
+use mathlib.Core.List.{List, map}
 use native.Mathlib.Omega.{arith}
 use native.Mathlib.Numerals.{add-one}
 use lib.ListN.{length, get_or, take}
@@ -11,9 +11,10 @@ use Rattle.theory.specs.Response.{load}
 use Rattle.theory.specs.Climb.{LeastRoom, Start}
 use Rattle.theory.specs.Lists.{rows_of, Shaped}
 use Rattle.demands.specs.Levels.{load_of, Small}
+use Rattle.climbs.specs.Ranking.{ranking_by}
 use Rattle.climbs.proofs.Load.{limits_at}
 use Rattle.climbs.proofs.InLists.{ranked, ranked_in_lists}
-use Rattle.climbs.proofs.AtRank.{InRankOrder, load_at_rank, small_at_rank, entry_at_rank}
+use Rattle.climbs.proofs.AtRank.{InRankOrder, gathered_in_rank_order, load_at_rank, small_at_rank, entry_at_rank}
 use Rattle.climbs.proofs.After.{RespondsBefore, start_after}
 
 pub record StandByRank (cs ds ts executions periods : List ℕ) : Type 0 where
@@ -23,6 +24,28 @@ pub record StandByRank (cs ds ts executions periods : List ℕ) : Type 0 where
   pub by_T : InRankOrder ds ts periods
   pub executions_long : length executions ≡ 24
   pub periods_long : length periods ≡ 24
+
+-- so stand rows of which C and T are gathered at the places of an order by rank
+pub gathered_stand :
+    {cs ds ts executions periods : List ℕ}
+    (order : List ℕ)
+    → Shaped cs ds ts × AllWithin (rows_of cs ds ts)
+    → take (length ds) order ≡ ranking_by ds
+    → take (length (take (length cs) order)) executions ≡ map (λ h. get_or cs h 0) (take (length cs) order)
+    → length executions ≡ 24
+    → take (length (take (length cs) order)) periods ≡ map (λ h. get_or ts h 0) (take (length cs) order)
+    → length periods ≡ 24
+    → StandByRank cs ds ts executions periods
+gathered_stand {cs} {ds} {ts} {executions} {periods} order rows by_rank of_cs executions_long of_ts periods_long =
+    let many = sym rows.0.as_many_deadlines in
+    record {
+      shaped = rows.0;
+      within = rows.1;
+      by_C = gathered_in_rank_order ds order cs executions (length cs) many by_rank of_cs;
+      by_T = gathered_in_rank_order ds order ts periods (length cs) many by_rank of_ts;
+      executions_long = executions_long;
+      periods_long = periods_long;
+    }
 
 -- the row before place j responds at r, within a million; r is 0 before the first
 pub record Following (executions periods : List ℕ) (j r : ℕ) : Type 0 where

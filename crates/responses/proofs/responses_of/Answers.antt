@@ -1,44 +1,19 @@
 use mathlib.Core.Path.{◌≡◌, refl, sym, ap, subst}
 use Prim.Native.Nat.{ℕ, ◌+◌, ◌≤◌, ◌<◌}
 use native.Mathlib.Omega.{arith}
-use mathlib.Core.List.{List, map}
 use lib.ListN.{length, get_or, take, set, length-take}
-use Rattle.theory.specs.Row.{AllWithin, row_at}
+use Rattle.theory.specs.Row.{row_at}
 use Rattle.theory.specs.Response.{Outcome, load, responds, misses, FirstMiss}
 use Rattle.theory.specs.Climb.{Climbed}
-use Rattle.theory.specs.Lists.{Shaped, rows_of}
+use Rattle.theory.specs.Lists.{rows_of}
 use Rattle.demands.specs.Levels.{load_of}
 use Rattle.climbs.specs.Climb.{outcome_of}
-use Rattle.climbs.specs.Ranking.{ranking_by}
 use Rattle.climbs.proofs.Load.{limits_at}
 use Rattle.climbs.proofs.OrderByRank.{ranked_long, places_of_rows}
 use Rattle.climbs.proofs.InLists.{deadline_of, ranked, order_ranked, order_in_lists}
-use Rattle.climbs.proofs.AtRank.{gathered_in_rank_order}
-use Rattle.climbs.proofs.StandByRank.{StandByRank, following_begins, execution_within, load_here, small_before, start_following, following_more}
+use Rattle.climbs.proofs.StandByRank.{gathered_stand, following_begins, execution_within, load_here, small_before, start_following, following_more}
 use Rattle.responses.proofs.Answering.{Answering, answering_begins, answering_more, answering_stops, answering_ends}
 use Rattle.responses.proofs.responses_of.Goals as goal
-
--- what the gathered lists hold: the numbers of the rows, by rank
-stands :
-    {cs ds ts executions periods : List ℕ}
-    (order : List ℕ)
-    → Shaped cs ds ts × AllWithin (rows_of cs ds ts)
-    → take (length ds) order ≡ ranking_by ds
-    → take (length (take (length cs) order)) executions ≡ map (λ h. get_or cs h 0) (take (length cs) order)
-    → length executions ≡ 24
-    → take (length (take (length cs) order)) periods ≡ map (λ h. get_or ts h 0) (take (length cs) order)
-    → length periods ≡ 24
-    → StandByRank cs ds ts executions periods
-stands {cs} {ds} {ts} {executions} {periods} order rows by_rank of_cs executions_long of_ts periods_long =
-    let many = sym rows.0.as_many_deadlines in
-    record {
-      shaped = rows.0;
-      within = rows.1;
-      by_C = gathered_in_rank_order ds order cs executions (length cs) many by_rank of_cs;
-      by_T = gathered_in_rank_order ds order ts periods (length cs) many by_rank of_ts;
-      executions_long = executions_long;
-      periods_long = periods_long;
-    }
 
 pub slice_bounds-by_rank-end : goal.slice_bounds-by_rank-end
 slice_bounds-by_rank-end c =
@@ -78,7 +53,7 @@ bounds-cs-j c = omega (arith, c.requires.shaped.0.no_25th)
 
 pub overflow_add-before : goal.overflow_add-before
 overflow_add-before c =
-    let stand = stands c.args.order.now c.requires.shaped c.requires.order_value c.gather-cs.ensures.result_value c.gather-cs.ensures.result_len c.gather-ts.ensures.result_value c.gather-ts.ensures.result_len in
+    let stand = gathered_stand c.args.order.now c.requires.shaped c.requires.order_value c.gather-cs.ensures.result_value c.gather-cs.ensures.result_len c.gather-ts.ensures.result_value c.gather-ts.ensures.result_len in
     let own-by-million : get_or c.gather-cs.result c.loop-j.j 0 ≤ 1_000_000 = (execution_within stand c.loop-j.j (omega arith)).1 in
     omega (arith, own-by-million, (c.loop-j.invariant c.requires.shaped.0).1.by_million)
 
@@ -94,27 +69,27 @@ bounds-d-k c =
 
 pub slice_bounds-cs-end : goal.slice_bounds-cs-end
 slice_bounds-cs-end c =
-    let stand = stands c.args.order.now c.requires.shaped c.requires.order_value c.gather-cs.ensures.result_value c.gather-cs.ensures.result_len c.gather-ts.ensures.result_value c.gather-ts.ensures.result_len in
+    let stand = gathered_stand c.args.order.now c.requires.shaped c.requires.order_value c.gather-cs.ensures.result_value c.gather-cs.ensures.result_len c.gather-ts.ensures.result_value c.gather-ts.ensures.result_len in
     omega (arith, stand.executions_long, c.requires.shaped.0.no_25th)
 
 pub slice_bounds-climb_from-end : goal.slice_bounds-climb_from-end
 slice_bounds-climb_from-end c =
-    let stand = stands c.args.order.now c.requires.shaped c.requires.order_value c.gather-cs.ensures.result_value c.gather-cs.ensures.result_len c.gather-ts.ensures.result_value c.gather-ts.ensures.result_len in
+    let stand = gathered_stand c.args.order.now c.requires.shaped c.requires.order_value c.gather-cs.ensures.result_value c.gather-cs.ensures.result_len c.gather-ts.ensures.result_value c.gather-ts.ensures.result_len in
     omega (arith, length-take c.loop-j.j c.gather-cs.result, stand.executions_long, c.requires.shaped.0.no_25th)
 
 pub slice_bounds-ts-end : goal.slice_bounds-ts-end
 slice_bounds-ts-end c =
-    let stand = stands c.args.order.now c.requires.shaped c.requires.order_value c.gather-cs.ensures.result_value c.gather-cs.ensures.result_len c.gather-ts.ensures.result_value c.gather-ts.ensures.result_len in
+    let stand = gathered_stand c.args.order.now c.requires.shaped c.requires.order_value c.gather-cs.ensures.result_value c.gather-cs.ensures.result_len c.gather-ts.ensures.result_value c.gather-ts.ensures.result_len in
     omega (arith, stand.periods_long, c.requires.shaped.0.no_25th)
 
 pub slice_bounds-climb_from-end-in-loop-j : goal.slice_bounds-climb_from-end-in-loop-j
 slice_bounds-climb_from-end-in-loop-j c =
-    let stand = stands c.args.order.now c.requires.shaped c.requires.order_value c.gather-cs.ensures.result_value c.gather-cs.ensures.result_len c.gather-ts.ensures.result_value c.gather-ts.ensures.result_len in
+    let stand = gathered_stand c.args.order.now c.requires.shaped c.requires.order_value c.gather-cs.ensures.result_value c.gather-cs.ensures.result_len c.gather-ts.ensures.result_value c.gather-ts.ensures.result_len in
     omega (arith, length-take c.loop-j.j c.gather-ts.result, stand.periods_long, c.requires.shaped.0.no_25th)
 
 pub climb_from-requires : goal.climb_from-requires
 climb_from-requires c =
-    let stand = stands c.args.order.now c.requires.shaped c.requires.order_value c.gather-cs.ensures.result_value c.gather-cs.ensures.result_len c.gather-ts.ensures.result_value c.gather-ts.ensures.result_len in
+    let stand = gathered_stand c.args.order.now c.requires.shaped c.requires.order_value c.gather-cs.ensures.result_value c.gather-cs.ensures.result_len c.gather-ts.ensures.result_value c.gather-ts.ensures.result_len in
     let row_inside : get_or c.args.order.now c.loop-j.j 0 < length c.args.c.now = order_in_lists c.args.c.now c.args.d.now c.args.t.now c.requires.shaped.0 c.args.order.now c.requires.order_value c.loop-j.j (omega arith) in
     let own-by-million : get_or c.gather-cs.result c.loop-j.j 0 ≤ 1_000_000 = (execution_within stand c.loop-j.j (omega arith)).1 in
     let cs = c.args.c.now in
@@ -140,7 +115,7 @@ bounds-response-k c =
 pub returns-in-Misses : goal.returns-in-Misses
 returns-in-Misses c =
     let row-ranked : let j = c.loop-j.j in get_or c.args.order.now j 0 ≡ ranked c.args.c.now c.args.d.now c.args.t.now c.requires.shaped.0 j = order_ranked c.args.c.now c.args.d.now c.args.t.now c.requires.shaped.0 c.args.order.now c.requires.order_value c.loop-j.j (omega arith) in
-    let stand = stands c.args.order.now c.requires.shaped c.requires.order_value c.gather-cs.ensures.result_value c.gather-cs.ensures.result_len c.gather-ts.ensures.result_value c.gather-ts.ensures.result_len in
+    let stand = gathered_stand c.args.order.now c.requires.shaped c.requires.order_value c.gather-cs.ensures.result_value c.gather-cs.ensures.result_len c.gather-ts.ensures.result_value c.gather-ts.ensures.result_len in
     let climb-of-turn : (outcome : Outcome) → outcome_of c.climb_from.result ≡ outcome → let j = c.loop-j.j in let executions = c.gather-cs.result in let periods = c.gather-ts.result in Climbed (load_of (get_or executions j 0) (take j executions) (take j periods)) (get_or c.args.d.now (ranked c.args.c.now c.args.d.now c.args.t.now c.requires.shaped.0 j) 0) outcome = λ outcome said. rw (row-ranked, said) at c.climb_from.ensures in
     let climb-of-row : (outcome : Outcome) → outcome_of c.climb_from.result ≡ outcome → let rows = rows_of c.args.c.now c.args.d.now c.args.t.now in let k = ranked c.args.c.now c.args.d.now c.args.t.now c.requires.shaped.0 c.loop-j.j in Climbed (load rows k) (row_at rows k).D outcome = λ outcome said. rw (deadline_of c.args.c.now c.args.d.now c.args.t.now c.requires.shaped.0 (ranked c.args.c.now c.args.d.now c.args.t.now c.requires.shaped.0 c.loop-j.j), ← load_here stand c.loop-j.j (omega arith))
     (climb-of-turn outcome said) in
@@ -154,7 +129,7 @@ returns-in-Misses c =
 
 pub loop-j-preserved : goal.loop-j-preserved
 loop-j-preserved c =
-    let stand = stands c.args.order.now c.requires.shaped c.requires.order_value c.gather-cs.ensures.result_value c.gather-cs.ensures.result_len c.gather-ts.ensures.result_value c.gather-ts.ensures.result_len in
+    let stand = gathered_stand c.args.order.now c.requires.shaped c.requires.order_value c.gather-cs.ensures.result_value c.gather-cs.ensures.result_len c.gather-ts.ensures.result_value c.gather-ts.ensures.result_len in
     let row-ranked : let j = c.loop-j.j in get_or c.args.order.now j 0 ≡ ranked c.args.c.now c.args.d.now c.args.t.now c.requires.shaped.0 j = order_ranked c.args.c.now c.args.d.now c.args.t.now c.requires.shaped.0 c.args.order.now c.requires.order_value c.loop-j.j (omega arith) in
     let climb-of-turn : (outcome : Outcome) → outcome_of c.climb_from.result ≡ outcome → let j = c.loop-j.j in let executions = c.gather-cs.result in let periods = c.gather-ts.result in Climbed (load_of (get_or executions j 0) (take j executions) (take j periods)) (get_or c.args.d.now (ranked c.args.c.now c.args.d.now c.args.t.now c.requires.shaped.0 j) 0) outcome = λ outcome said. rw (row-ranked, said) at c.climb_from.ensures in
     let climb-of-row : (outcome : Outcome) → outcome_of c.climb_from.result ≡ outcome → let rows = rows_of c.args.c.now c.args.d.now c.args.t.now in let k = ranked c.args.c.now c.args.d.now c.args.t.now c.requires.shaped.0 c.loop-j.j in Climbed (load rows k) (row_at rows k).D outcome = λ outcome said. rw (deadline_of c.args.c.now c.args.d.now c.args.t.now c.requires.shaped.0 (ranked c.args.c.now c.args.d.now c.args.t.now c.requires.shaped.0 c.loop-j.j), ← load_here stand c.loop-j.j (omega arith))
