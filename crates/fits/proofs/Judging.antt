@@ -9,7 +9,7 @@ use native.Mathlib.Omega.{arith}
 use borrow.Author.Count.{below_more}
 use lib.ListN.{length, get_or, take}
 use Rattle.theory.specs.Row.{Row}
-use Rattle.theory.specs.Response.{load, Meets, AllMeet, responds, misses, IsOutcome}
+use Rattle.theory.specs.Response.{Meets, AllMeet, responds, misses, IsOutcome}
 use Rattle.theory.specs.Allowance.{raised, IsCoreAllowance}
 use Rattle.theory.specs.Climb.{RoomAt, LeastRoom}
 use Rattle.theory.specs.Lists.{rows_of}
