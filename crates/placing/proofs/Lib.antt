@@ -1,3 +1,4 @@
 -- Laws of the placement as the code makes it.
 pub mod Considered
 pub mod SoFar
+pub mod Turn
