@@ -1,5 +1,5 @@
 -- From one stage of the list services to the next: what the checks passed, what the response times leave, and the answer on both lists.
-use mathlib.Core.Path.{◌≡◌, refl, sym, subst}
+use mathlib.Core.Path.{◌≡◌, refl, sym, subst, ◌∙◌}
 use Prim.Native.Nat.{ℕ, ◌+◌, ◌≤◌, ◌<◌}
 use mathlib.Core.List.{List}
 use native.Mathlib.Omega.{arith}
@@ -40,6 +40,10 @@ module _ (cs ds ts : List ℕ) (responses allowances : ℕ) where
 
   pub checks_pass : Checked cs ds ts responses allowances Accepted → Passed
   checks_pass (checks.passed s w p q) = record { shaped = s; within = w; responses_fit = p; allowances_fit = q }
+
+  -- where the number of their answer is 0, they have passed
+  pub checks_passed : {a : Answer} {n : ℕ} → Checked cs ds ts responses allowances a → n ≡ number_of a → n ≡ 0 → Passed
+  checks_passed said number none = checks_pass (checks_accept said (sym number ∙ none))
 
 -- a verdict on the rows is where they stand after their response times
 module _ (cs ds ts order response : List ℕ) (shaped : Shaped cs ds ts) {verdict : Verdict} (said : IsVerdict (rows_of cs ds ts) response verdict) where
@@ -82,12 +86,12 @@ module _ (cs ds ts : List ℕ) (responses allowances : ℕ) (order response : Li
 
   -- what the trials ask
   pub trials_may_follow :
-      (Shaped cs ds ts × AllWithin (rows_of cs ds ts)) × ((take (length ds) order ≡ ranking_by ds) × ((k : ℕ) → k < length cs → RespondsInTime (rows_of cs ds ts) response k))
-  trials_may_follow = ((ready.passed.shaped, ready.passed.within), (ready.timed.ranked, in_time_lem))
+      (Shaped cs ds ts × AllWithin (rows_of cs ds ts)) × (take (length ds) order ≡ ranking_by ds) × ((k : ℕ) → k < length cs → RespondsInTime (rows_of cs ds ts) response k)
+  trials_may_follow = ((ready.passed.shaped, ready.passed.within), ready.timed.ranked, in_time_lem)
 
   -- what the points ask
-  pub points_may_follow : (Shaped cs ds ts × AllWithin (rows_of cs ds ts)) × ((take (length ds) order ≡ ranking_by ds) × AllMeet (rows_of cs ds ts))
-  points_may_follow = ((ready.passed.shaped, ready.passed.within), (ready.timed.ranked, all_in_time_meet cs ds ts response ready.passed.shaped in_time_lem))
+  pub points_may_follow : (Shaped cs ds ts × AllWithin (rows_of cs ds ts)) × (take (length ds) order ≡ ranking_by ds) × AllMeet (rows_of cs ds ts)
+  points_may_follow = ((ready.passed.shaped, ready.passed.within), ready.timed.ranked, all_in_time_meet cs ds ts response ready.passed.shaped in_time_lem)
 
   -- what the delivery asks
   pub delivery_may_follow : (allowed : List ℕ) → length allowed ≡ 24
