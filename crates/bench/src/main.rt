@@ -5,7 +5,8 @@ ghost use Rattle.std.specs.Prelude.{◌≤◌, length};
 ghost use Rattle.bench.specs.Input.{InFront};
 ghost use Rattle.bench.specs.Lines.{HasLines};
 
-use libc::{STDIN_FILENO, STDOUT_FILENO};
+use std::io;
+use std::io::Read;
 
 // What standard input gave: so many bytes, at the front of the buffer, or a read that failed.
 #[derive(Drop)]
@@ -15,20 +16,16 @@ enum Input {
 }
 
 // Reads until the buffer is full, the input ends or a read fails.
-fn read_input(buffer: &mut [u8]) -> Input
+fn read_input<R: Read>(reader: &mut R, buffer: &mut [u8]) -> Input
     ensures { InFront result buffer.new }
 {
     let mut n = 0;
     while n < buffer.len() {
-        let got = libc::read(STDIN_FILENO, &mut buffer[n..]);
-        if got < 0 {
-            return Input::Failed;
+        match reader.read(&mut buffer[n..]) {
+            Ok(0) => return Input::Bytes(n),
+            Ok(more) => n += more,
+            Err(_) => return Input::Failed,
         }
-        let more = io::count(got, &buffer[n..]);
-        if more == 0 {
-            return Input::Bytes(n);
-        }
-        n += more;
     }
     Input::Bytes(n)
 }
@@ -42,18 +39,18 @@ fn lines_of(table: &[u8], text: &mut [u8]) -> usize
 }
 
 // Prints the lines for a table.
-fn print_listing(table: &[u8]) {
+fn print_listing(rt: &impl Print, table: &[u8]) -> io::Result<()> {
     let mut text = [0u8; 1102];
     let n = lines_of(table, &mut text);
-    io::write_all(STDOUT_FILENO, &text[..n]);
+    rt.write_all(&text[..n])
 }
 
 // No table is longer than 316 bytes, and the first 317 of any input tell what is printed (`listed_from_front`): input that is longer is refused as it would be
-// whole. Where a read fails what came is not taken for a table, and a record is missing, as where nothing came.
-fn main() {
+// whole. Where a read fails what came is not taken for a table, and a record is missing, as where nothing came. Where a write fails, main ends with its error.
+fn main(rt: HostRuntime) -> io::Result<()> {
     let mut buffer = [0u8; 317];
-    match read_input(&mut buffer) {
-        Input::Bytes(n) => print_listing(&buffer[..n]),
-        Input::Failed => print_listing(&[]),
+    match read_input(&mut rt.stdin(), &mut buffer) {
+        Input::Bytes(n) => print_listing(&rt, &buffer[..n]),
+        Input::Failed => print_listing(&rt, &[]),
     }
 }
