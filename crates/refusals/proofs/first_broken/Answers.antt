@@ -1,7 +1,6 @@
 use mathlib.Core.Path.{sym, ◌∙◌}
 use native.Mathlib.Omega.{arith}
 use borrow.Author.Count.{below_more}
-use borrow.Author.Tests.{not-true, not-false}
 use Rattle.refusals.proofs.Rows.{passing_row, failing_row}
 use Rattle.refusals.proofs.first_broken.Goals as goal
 
@@ -31,7 +30,7 @@ returns-then-not-within_limits c =
     let k = c.loop-k.k in record {
       within = omega arith;
       before = c.loop-k.invariant.1;
-      broken = λ inside. failing_row c.args.c.now c.args.d.now c.args.t.now c.requires k (sym c.within_limits.ensures ∙ not-true _ c.if-not-within_limits.true-raw);
+      broken = λ inside. failing_row c.args.c.now c.args.d.now c.args.t.now c.requires k (sym c.within_limits.ensures ∙ c.if-not-within_limits.true);
     }
 
 pub loop-k-preserved : goal.loop-k-preserved
@@ -39,7 +38,7 @@ loop-k-preserved c =
     let k = c.loop-k.k in (
       omega arith,
       below_more _ _ c.loop-k.invariant.1
-          (passing_row c.args.c.now c.args.d.now c.args.t.now c.requires k (sym c.within_limits.ensures ∙ not-false _ c.if-not-within_limits.false-raw)),
+          (passing_row c.args.c.now c.args.d.now c.args.t.now c.requires k (sym c.within_limits.ensures ∙ c.if-not-within_limits.false)),
     )
 
 pub returns : goal.returns
