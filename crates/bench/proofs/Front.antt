@@ -10,5 +10,5 @@ use Rattle.service.specs.Table.{Listed}
 -- the listing of the first 317 bytes is the listing of all
 pub listed_from_front : {rule : Rule} {lines : List ℕ} (bytes : List ℕ) → Listed rule (take 317 bytes) lines → Listed rule bytes lines
 listed_from_front bytes (Listed.not_a_table number row read) = Listed.not_a_table number row (sym (table_in_front bytes) ∙ read)
-listed_from_front bytes (Listed.no_core_takes_lem t i read stopped) = Listed.no_core_takes_lem t i (sym (table_in_front bytes) ∙ read) stopped
+listed_from_front bytes (Listed.no_core_takes_it t i read stopped) = Listed.no_core_takes_it t i (sym (table_in_front bytes) ∙ read) stopped
 listed_from_front bytes (Listed.accepted t all read certified) = Listed.accepted t all (sym (table_in_front bytes) ∙ read) certified

@@ -37,7 +37,7 @@ pub record ReportOf (rule : Rule) (bytes report after : List ℕ) : Type 0 where
 pub accepted_report : {rule : Rule} {bytes report : List ℕ} {returns : Returned} {after : List ℕ} → TableAnswered rule bytes report returns after → returns ≡ returned 0 0 → ReportOf rule bytes report after
 accepted_report (TableAnswered.not_a_table number row refused) accepted = not_accepted (refused_from_1_to_5 _ number row refused).0 accepted
 accepted_report (TableAnswered.output_too_short t reads short) accepted = not_accepted (omega arith) accepted
-accepted_report (TableAnswered.no_core_takes_lem t i reads long stopped) accepted = not_accepted (omega arith) accepted
+accepted_report (TableAnswered.no_core_takes_it t i reads long stopped) accepted = not_accepted (omega arith) accepted
 accepted_report (TableAnswered.accepted t all reads long is_certified) accepted =
     record { of_table = t; figures = all; is_table_lem = reads; is_certified = is_certified; is_report = refl }
 
@@ -52,7 +52,7 @@ pub record TextOf (rule : Rule) (cores : ℕ) (text lent : List ℕ) (n : ℕ) (
 
 pub accepted_text : {rule : Rule} {cores : ℕ} {text lent : List ℕ} {returns : Returned} {n : ℕ} {after : List ℕ} → TextAnswered rule cores text lent returns n after → returns ≡ returned 0 0 → TextOf rule cores text lent n after
 accepted_text {cores = cores} {text} (TextAnswered.not_a_table number row refused) accepted = not_accepted (omega (arith, (text_refused cores text number row refused).from_2)) accepted
-accepted_text (TextAnswered.no_core_takes_lem t i reads stopped) accepted = not_accepted (omega arith) accepted
+accepted_text (TextAnswered.no_core_takes_it t i reads stopped) accepted = not_accepted (omega arith) accepted
 accepted_text (TextAnswered.output_too_short t all reads certified short) accepted = not_accepted (omega arith) accepted
 accepted_text (TextAnswered.accepted t all reads certified long) accepted =
     record { of_table = t; figures = all; is_table_lem = reads; is_certified = certified; as_long = refl; is_text = refl }

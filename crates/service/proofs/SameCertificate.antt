@@ -39,14 +39,14 @@ module _ {rule : Rule} (is-rule : IsRule rule) (cores : ℕ) (text bytes : List 
         → (b ≡ returned 7 0 → ⊥)
         → a ≡ b
     same_return (TextAnswered.not_a_table number row p) second long also = not_both as-text p
-    same_return (TextAnswered.no_core_takes_lem u i p s) (TableAnswered.not_a_table number row q) long also = not_both as_bytes q
-    same_return (TextAnswered.no_core_takes_lem u i p s) (TableAnswered.output_too_short v q r) long also = absurd (also refl)
-    same_return (TextAnswered.no_core_takes_lem u i p s) (TableAnswered.no_core_takes_lem v j q m r) long also = ap (λ (x : ℕ). returned 6 (suc x)) (one_stop is-rule (of_text p) (of_bytes q) s r)
-    same_return (TextAnswered.no_core_takes_lem u i p s) (TableAnswered.accepted v others q m d) long also = not_certified is-rule (of_text p) (of_bytes q) s d
+    same_return (TextAnswered.no_core_takes_it u i p s) (TableAnswered.not_a_table number row q) long also = not_both as_bytes q
+    same_return (TextAnswered.no_core_takes_it u i p s) (TableAnswered.output_too_short v q r) long also = absurd (also refl)
+    same_return (TextAnswered.no_core_takes_it u i p s) (TableAnswered.no_core_takes_it v j q m r) long also = ap (λ (x : ℕ). returned 6 (suc x)) (one_stop is-rule (of_text p) (of_bytes q) s r)
+    same_return (TextAnswered.no_core_takes_it u i p s) (TableAnswered.accepted v others q m d) long also = not_certified is-rule (of_text p) (of_bytes q) s d
     same_return (TextAnswered.output_too_short u all p c s) second long also = absurd (long refl)
     same_return (TextAnswered.accepted u all p c l) (TableAnswered.not_a_table number row q) long also = not_both as_bytes q
     same_return (TextAnswered.accepted u all p c l) (TableAnswered.output_too_short v q r) long also = absurd (also refl)
-    same_return (TextAnswered.accepted u all p c l) (TableAnswered.no_core_takes_lem v j q m r) long also = not_certified is-rule (of_bytes q) (of_text p) r c
+    same_return (TextAnswered.accepted u all p c l) (TableAnswered.no_core_takes_it v j q m r) long also = not_certified is-rule (of_bytes q) (of_text p) r c
     same_return (TextAnswered.accepted u all p c l) (TableAnswered.accepted v others q m d) long also = refl
 
     -- WHERE BOTH ACCEPT, TEXT AND REPORT HAVE THE SAME FIGURES

@@ -43,31 +43,31 @@ module _ (rule : Rule) (is-rule : IsRule rule) (bytes : List ℕ) where
     pub table_answered_unique : {a b : Returned} {first second : List ℕ} → TableAnswered rule bytes report a first → TableAnswered rule bytes report b second → Same a b first second
     table_answered_unique (TableAnswered.not_a_table a x p) (TableAnswered.not_a_table b y q) = refused_alike (returned a x) (returned b y) (let same = one_refusal p q in cc)
     table_answered_unique (TableAnswered.not_a_table a x p) (TableAnswered.output_too_short u q r) = not_both q p
-    table_answered_unique (TableAnswered.not_a_table a x p) (TableAnswered.no_core_takes_lem u j q m r) = not_both q p
+    table_answered_unique (TableAnswered.not_a_table a x p) (TableAnswered.no_core_takes_it u j q m r) = not_both q p
     table_answered_unique (TableAnswered.not_a_table a x p) (TableAnswered.accepted u others q m d) = not_both q p
     table_answered_unique (TableAnswered.output_too_short t p s) (TableAnswered.not_a_table b y q) = not_both p q
     table_answered_unique (TableAnswered.output_too_short t p s) (TableAnswered.output_too_short u q r) = refused_alike (returned 7 0) (returned 7 0) refl
-    table_answered_unique (TableAnswered.output_too_short t p s) (TableAnswered.no_core_takes_lem u j q m r) = short_and_long report t u p q s m
+    table_answered_unique (TableAnswered.output_too_short t p s) (TableAnswered.no_core_takes_it u j q m r) = short_and_long report t u p q s m
     table_answered_unique (TableAnswered.output_too_short t p s) (TableAnswered.accepted u others q m d) = short_and_long report t u p q s m
-    table_answered_unique (TableAnswered.no_core_takes_lem t i p l s) (TableAnswered.not_a_table b y q) = not_both p q
-    table_answered_unique (TableAnswered.no_core_takes_lem t i p l s) (TableAnswered.output_too_short u q r) = short_and_long report u t q p r l
-    table_answered_unique (TableAnswered.no_core_takes_lem t i p l s) (TableAnswered.no_core_takes_lem u j q m r) = refused_alike (returned 6 (suc i)) (returned 6 (suc j)) (ap (λ (x : ℕ). returned 6 (suc x)) (one_stop is-rule p q s r))
-    table_answered_unique (TableAnswered.no_core_takes_lem t i p l s) (TableAnswered.accepted u others q m d) = not_certified is-rule p q s d
+    table_answered_unique (TableAnswered.no_core_takes_it t i p l s) (TableAnswered.not_a_table b y q) = not_both p q
+    table_answered_unique (TableAnswered.no_core_takes_it t i p l s) (TableAnswered.output_too_short u q r) = short_and_long report u t q p r l
+    table_answered_unique (TableAnswered.no_core_takes_it t i p l s) (TableAnswered.no_core_takes_it u j q m r) = refused_alike (returned 6 (suc i)) (returned 6 (suc j)) (ap (λ (x : ℕ). returned 6 (suc x)) (one_stop is-rule p q s r))
+    table_answered_unique (TableAnswered.no_core_takes_it t i p l s) (TableAnswered.accepted u others q m d) = not_certified is-rule p q s d
     table_answered_unique (TableAnswered.accepted t all p l c) (TableAnswered.not_a_table b y q) = not_both p q
     table_answered_unique (TableAnswered.accepted t all p l c) (TableAnswered.output_too_short u q r) = short_and_long report u t q p r l
-    table_answered_unique (TableAnswered.accepted t all p l c) (TableAnswered.no_core_takes_lem u j q m r) = not_certified is-rule q p r c
+    table_answered_unique (TableAnswered.accepted t all p l c) (TableAnswered.no_core_takes_it u j q m r) = not_certified is-rule q p r c
     table_answered_unique (TableAnswered.accepted t all p l c) (TableAnswered.accepted u others q m d) = both_accepted t u all others (one_table p q) (one_list is-rule p q c d)
 
   -- what the bench program prints is determined
   pub listed_unique : {text other : List ℕ} → Listed rule bytes text → Listed rule bytes other → text ≡ other
   listed_unique (Listed.not_a_table a x p) (Listed.not_a_table b y q) = let same = one_refusal p q in cc
-  listed_unique (Listed.not_a_table a x p) (Listed.no_core_takes_lem u j q r) = not_both q p
+  listed_unique (Listed.not_a_table a x p) (Listed.no_core_takes_it u j q r) = not_both q p
   listed_unique (Listed.not_a_table a x p) (Listed.accepted u others q d) = not_both q p
-  listed_unique (Listed.no_core_takes_lem t i p s) (Listed.not_a_table b y q) = not_both p q
-  listed_unique (Listed.no_core_takes_lem t i p s) (Listed.no_core_takes_lem u j q r) = ap (λ (x : ℕ). refusal 6 (suc x)) (one_stop is-rule p q s r)
-  listed_unique (Listed.no_core_takes_lem t i p s) (Listed.accepted u others q d) = not_certified is-rule p q s d
+  listed_unique (Listed.no_core_takes_it t i p s) (Listed.not_a_table b y q) = not_both p q
+  listed_unique (Listed.no_core_takes_it t i p s) (Listed.no_core_takes_it u j q r) = ap (λ (x : ℕ). refusal 6 (suc x)) (one_stop is-rule p q s r)
+  listed_unique (Listed.no_core_takes_it t i p s) (Listed.accepted u others q d) = not_certified is-rule p q s d
   listed_unique (Listed.accepted t all p c) (Listed.not_a_table b y q) = not_both p q
-  listed_unique (Listed.accepted t all p c) (Listed.no_core_takes_lem u j q r) = not_certified is-rule q p r c
+  listed_unique (Listed.accepted t all p c) (Listed.no_core_takes_it u j q r) = not_certified is-rule q p r c
   listed_unique (Listed.accepted t all p c) (Listed.accepted u others q d) = ap listing (one_list is-rule p q c d)
 
   -- so are the answer of the listing and every byte that it is lent

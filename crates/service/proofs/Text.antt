@@ -49,19 +49,19 @@ module _ (cores : ℕ) (text lent : List ℕ) where
         {a b : Returned} {n m : ℕ} {first second : List ℕ} → TextAnswered rule cores text lent a n first → TextAnswered rule cores text lent b m second
         → SameWritten a b n m first second
     text_answered_unique (TextAnswered.not_a_table a x p) (TextAnswered.not_a_table b y q) = refused_alike lent (let same = one_refusal p q in cc)
-    text_answered_unique (TextAnswered.not_a_table a x p) (TextAnswered.no_core_takes_lem u j q r) = not_both q p
+    text_answered_unique (TextAnswered.not_a_table a x p) (TextAnswered.no_core_takes_it u j q r) = not_both q p
     text_answered_unique (TextAnswered.not_a_table a x p) (TextAnswered.output_too_short u others q d r) = not_both q p
     text_answered_unique (TextAnswered.not_a_table a x p) (TextAnswered.accepted u others q d m) = not_both q p
-    text_answered_unique (TextAnswered.no_core_takes_lem t i p s) (TextAnswered.not_a_table b y q) = not_both p q
-    text_answered_unique (TextAnswered.no_core_takes_lem t i p s) (TextAnswered.no_core_takes_lem u j q r) = refused_alike lent (ap (λ (x : ℕ). returned 6 (suc x)) (one_stop is-rule p q s r))
-    text_answered_unique (TextAnswered.no_core_takes_lem t i p s) (TextAnswered.output_too_short u others q d r) = not_certified is-rule p q s d
-    text_answered_unique (TextAnswered.no_core_takes_lem t i p s) (TextAnswered.accepted u others q d m) = not_certified is-rule p q s d
+    text_answered_unique (TextAnswered.no_core_takes_it t i p s) (TextAnswered.not_a_table b y q) = not_both p q
+    text_answered_unique (TextAnswered.no_core_takes_it t i p s) (TextAnswered.no_core_takes_it u j q r) = refused_alike lent (ap (λ (x : ℕ). returned 6 (suc x)) (one_stop is-rule p q s r))
+    text_answered_unique (TextAnswered.no_core_takes_it t i p s) (TextAnswered.output_too_short u others q d r) = not_certified is-rule p q s d
+    text_answered_unique (TextAnswered.no_core_takes_it t i p s) (TextAnswered.accepted u others q d m) = not_certified is-rule p q s d
     text_answered_unique (TextAnswered.output_too_short t all p c s) (TextAnswered.not_a_table b y q) = not_both p q
-    text_answered_unique (TextAnswered.output_too_short t all p c s) (TextAnswered.no_core_takes_lem u j q r) = not_certified is-rule q p r c
+    text_answered_unique (TextAnswered.output_too_short t all p c s) (TextAnswered.no_core_takes_it u j q r) = not_certified is-rule q p r c
     text_answered_unique (TextAnswered.output_too_short t all p c s) (TextAnswered.output_too_short u others q d r) = refused_alike lent refl
     text_answered_unique (TextAnswered.output_too_short t all p c s) (TextAnswered.accepted u others q d m) = short_and_long lent (one_text p q c d) s m
     text_answered_unique (TextAnswered.accepted t all p c l) (TextAnswered.not_a_table b y q) = not_both p q
-    text_answered_unique (TextAnswered.accepted t all p c l) (TextAnswered.no_core_takes_lem u j q r) = not_certified is-rule q p r c
+    text_answered_unique (TextAnswered.accepted t all p c l) (TextAnswered.no_core_takes_it u j q r) = not_certified is-rule q p r c
     text_answered_unique (TextAnswered.accepted t all p c l) (TextAnswered.output_too_short u others q d r) = short_and_long lent (one_text q p d c) r l
     text_answered_unique (TextAnswered.accepted t all p c l) (TextAnswered.accepted u others q d m) = both_written lent (one_text p q c d)
 

@@ -22,7 +22,7 @@ pub data TableAnswered (rule : Rule) (bytes report : List ℕ) : Returned → Li
       → read_table bytes ≡ table t
       → length report < report_length (length t.rows)
       → TableAnswered rule bytes report (returned 7 0) report
-  no_core_takes_lem :
+  no_core_takes_it :
       (t : Table) (i : ℕ)
       → read_table bytes ≡ table t
       → report_length (length t.rows) ≤ length report
@@ -41,7 +41,7 @@ pub data Listed (rule : Rule) (bytes : List ℕ) : List ℕ → Type 0 where
       (number row : ℕ)
       → read_table bytes ≡ refused number row
       → Listed rule bytes (refusal number row)
-  no_core_takes_lem :
+  no_core_takes_it :
       (t : Table) (i : ℕ)
       → read_table bytes ≡ table t
       → Stopped rule t i

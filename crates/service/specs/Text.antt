@@ -18,7 +18,7 @@ pub data TextAnswered (rule : Rule) (cores : ℕ) (text lent : List ℕ) : Retur
       (number row : ℕ)
       → read_text cores text ≡ refused number row
       → TextAnswered rule cores text lent (returned number row) 0 lent
-  no_core_takes_lem :
+  no_core_takes_it :
       (t : Table) (i : ℕ)
       → read_text cores text ≡ table t
       → Stopped rule t i

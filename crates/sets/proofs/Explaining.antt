@@ -46,10 +46,10 @@ module _ (cs ds ts : List ℕ) (row : ℕ) where
       -- a row misses
       pub late_unexplained : {order response : List ℕ} {a : Answer} → IsTimed cs ds ts order response a → (number_of a ≡ 0 → ⊥) → Explained cs ds ts row (returned_by a) 0 0
       late_unexplained (stage.row_misses k m) r = promise.row_misses (row - 1) k passed.shaped passed.within its_place up_to_lem m
-      late_unexplained (stage.in_time_lem o l t) r = absurd (r refl)
+      late_unexplained (stage.rows_in_time o l t) r = absurd (r refl)
 
       -- every row meets, and one limits
       pub limit_explained : {order response : List ℕ} → Timed cs ds ts order response → (k p : ℕ) → LimitedBy (rows_of cs ds ts) (row - 1) k p → Explained cs ds ts row (returned 0 0) (k + 1) p
       limit_explained {order} {response} timed k p l =
           rw (add-one k)
-          (promise.limited (row - 1) k p passed.shaped passed.within its_place up_to_lem (all_in_time_meet cs ds ts response passed.shaped (λ h inside. timed.in_time_lem h (in_rows cs ds ts passed.shaped inside))) l)
+          (promise.limited (row - 1) k p passed.shaped passed.within its_place up_to_lem (all_in_time_meet cs ds ts response passed.shaped (λ h inside. timed.rows_in_time h (in_rows cs ds ts passed.shaped inside))) l)

@@ -48,7 +48,7 @@ module _ (cs ds ts : List ℕ) (responses allowances : ℕ) where
 -- a verdict on the rows is where they stand after their response times
 module _ (cs ds ts order response : List ℕ) (shaped : Shaped cs ds ts) {verdict : Verdict} (said : IsVerdict (rows_of cs ds ts) response verdict) where
   pub verdict_on_time : take (length ds) order ≡ ranking_by ds → length response ≡ 24 → verdict ≡ OnTime → IsTimed cs ds ts order response Accepted
-  verdict_on_time ranked long on-time = stage.in_time_lem ranked long (subst (IsVerdict (rows_of cs ds ts) response) on-time said)
+  verdict_on_time ranked long on-time = stage.rows_in_time ranked long (subst (IsVerdict (rows_of cs ds ts) response) on-time said)
 
   pub verdict_late : (k : ℕ) → verdict ≡ Late k → IsTimed cs ds ts order response (RowMisses (k + 1))
   verdict_late k late = subst (λ (row : ℕ). IsTimed cs ds ts order response (RowMisses row)) (sym (add-one k)) (stage.row_misses k (subst (IsVerdict (rows_of cs ds ts) response) late said))
@@ -62,11 +62,11 @@ module _ (cs ds ts order response : List ℕ) (shaped : Shaped cs ds ts) {verdic
 pub record Timed (cs ds ts order response : List ℕ) : Type 0 where
   pub ranked : take (length ds) order ≡ ranking_by ds
   pub long : length response ≡ 24
-  pub in_time_lem : (k : ℕ) → k < length (rows_of cs ds ts) → RespondsInTime (rows_of cs ds ts) response k
+  pub rows_in_time : (k : ℕ) → k < length (rows_of cs ds ts) → RespondsInTime (rows_of cs ds ts) response k
 
 pub all_timed : {cs ds ts order response : List ℕ} {a : Answer} → IsTimed cs ds ts order response a → number_of a ≡ 0 → Timed cs ds ts order response
 all_timed (stage.row_misses k m) e = absurd (omega arith)
-all_timed (stage.in_time_lem o l t) e = record { ranked = o; long = l; in_time_lem = t }
+all_timed (stage.rows_in_time o l t) e = record { ranked = o; long = l; rows_in_time = t }
 
 -- what is there when the allowances are still to come
 pub record Ready (cs ds ts : List ℕ) (responses allowances : ℕ) (order response : List ℕ) : Type 0 where
@@ -81,17 +81,17 @@ begun_ready cs ds ts responses allowances order response (stage.refused checked 
 begun_ready cs ds ts responses allowances order response (stage.checked checked timed) e = record { passed = checks_pass cs ds ts responses allowances checked; timed = all_timed timed e }
 
 module _ (cs ds ts : List ℕ) (responses allowances : ℕ) (order response : List ℕ) (ready : Ready cs ds ts responses allowances order response) where
-  in_time_lem : (k : ℕ) → k < length cs → RespondsInTime (rows_of cs ds ts) response k
-  in_time_lem k h = ready.timed.in_time_lem k (in_rows cs ds ts ready.passed.shaped h)
+  rows_in_time : (k : ℕ) → k < length cs → RespondsInTime (rows_of cs ds ts) response k
+  rows_in_time k h = ready.timed.rows_in_time k (in_rows cs ds ts ready.passed.shaped h)
 
   -- what the trials ask
   pub trials_may_follow :
       (Shaped cs ds ts × AllWithin (rows_of cs ds ts)) × (take (length ds) order ≡ ranking_by ds) × ((k : ℕ) → k < length cs → RespondsInTime (rows_of cs ds ts) response k)
-  trials_may_follow = ((ready.passed.shaped, ready.passed.within), ready.timed.ranked, in_time_lem)
+  trials_may_follow = ((ready.passed.shaped, ready.passed.within), ready.timed.ranked, rows_in_time)
 
   -- what the points ask
   pub points_may_follow : (Shaped cs ds ts × AllWithin (rows_of cs ds ts)) × (take (length ds) order ≡ ranking_by ds) × AllMeet (rows_of cs ds ts)
-  points_may_follow = ((ready.passed.shaped, ready.passed.within), ready.timed.ranked, all_in_time_meet cs ds ts response ready.passed.shaped in_time_lem)
+  points_may_follow = ((ready.passed.shaped, ready.passed.within), ready.timed.ranked, all_in_time_meet cs ds ts response ready.passed.shaped rows_in_time)
 
   -- what the delivery asks
   pub delivery_may_follow : (allowed : List ℕ) → length allowed ≡ 24
@@ -110,7 +110,7 @@ module _ (Allowance : List Row → ℕ → ℕ → Type 0) (cs ds ts responses a
   begun_refused order response (stage.refused (checks.output_too_short shaped w o) r) s = lists.output_too_short shaped w o
   begun_refused order response (stage.refused (checks.passed shaped w p q) r) s = absurd (r refl)
   begun_refused order response (stage.checked (checks.passed shaped w p q) (stage.row_misses k m)) s = lists.row_misses k shaped w p q m
-  begun_refused order response (stage.checked checked (stage.in_time_lem o l t)) s = absurd (s refl)
+  begun_refused order response (stage.checked checked (stage.rows_in_time o l t)) s = absurd (s refl)
 
   -- with an allowance for each row the call is accepted
   pub ready_accepted : (order response allowed : List ℕ)
@@ -120,6 +120,6 @@ module _ (Allowance : List Row → ℕ → ℕ → Type 0) (cs ds ts responses a
       → Answered Allowance cs ds ts responses allowances (returned 0 0) (filled (take (length cs) response) responses) (filled (take (length cs) allowed) allowances)
   ready_accepted order response allowed ready long is_allowance =
       lists.accepted (take (length cs) response) (take (length cs) allowed) ready.passed.shaped ready.passed.within ready.passed.responses_fit ready.passed.allowances_fit
-      (λ k h. in_time_meets (ready.timed.in_time_lem k h))
-      (front_for_each cs ds ts ready.passed.shaped (IsResponse (rows_of cs ds ts)) response ready.timed.long (λ k h. (ready.timed.in_time_lem k (in_rows cs ds ts ready.passed.shaped h)).is_response))
+      (λ k h. in_time_meets (ready.timed.rows_in_time k h))
+      (front_for_each cs ds ts ready.passed.shaped (IsResponse (rows_of cs ds ts)) response ready.timed.long (λ k h. (ready.timed.rows_in_time k (in_rows cs ds ts ready.passed.shaped h)).is_response))
       (front_for_each cs ds ts ready.passed.shaped (Allowance (rows_of cs ds ts)) allowed long is_allowance)

@@ -12,7 +12,7 @@ use Rattle.responses.specs.Verdict.{RespondsInTime}
 -- after the response times of rows that passed the checks
 pub data IsTimed (cs ds ts order response : List ℕ) : Answer → Type 0 where
   row_misses : (k : ℕ) → FirstMiss (rows_of cs ds ts) k → IsTimed cs ds ts order response (RowMisses (suc k))
-  in_time_lem :
+  rows_in_time :
       take (length ds) order ≡ ranking_by ds
       → length response ≡ 24
       → ((k : ℕ) → k < length (rows_of cs ds ts) → RespondsInTime (rows_of cs ds ts) response k)

@@ -46,7 +46,7 @@ module _ (t : Table) (passes : T (is_table t)) where
     where
       go : (c : Certificate) → IsCertificate allowance_fit t c → Listed allowance_fit (table_bytes t) (text_of c)
       go (certified all) is = Listed.accepted t all reads is
-      go (no_core_takes i) is = Listed.no_core_takes_lem t i reads is
+      go (no_core_takes i) is = Listed.no_core_takes_it t i reads is
 
   pub accepted_holds : (all : List Figures) → certificate allowance_fit t ≡ certified all
       → (report : List ℕ)
@@ -65,4 +65,4 @@ module _ (t : Table) (passes : T (is_table t)) where
       go (no_core_takes i) is s =
           let six = eqb→eq 6 number (and_first (eqb 6 number) (eqb (suc i) row) s) in
           let its_row = eqb→eq (suc i) row (and_second (eqb 6 number) (eqb (suc i) row) s) in
-          subst (λ (r : Returned). TableAnswered allowance_fit (table_bytes t) report r report) (cc) (TableAnswered.no_core_takes_lem t i reads long is)
+          subst (λ (r : Returned). TableAnswered allowance_fit (table_bytes t) report r report) (cc) (TableAnswered.no_core_takes_it t i reads long is)

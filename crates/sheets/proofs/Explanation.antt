@@ -23,7 +23,7 @@ use Rattle.theory.proofs.Bound.{bound_is, bound_unique}
 use Rattle.theory.proofs.Allowance.{raised_steady, allowance_is}
 use Rattle.theory.proofs.CoreAllowance.{on_time_meets}
 use Rattle.sheets.specs.Sheets.{executions, deadlines, periods}
-use Rattle.sheets.proofs.Test.{same_signed, is_set, misses_first, refuses_late, is_first, greatest_at, limited_at, why_refused}
+use Rattle.sheets.proofs.Test.{same_signed, is_set, misses_first, refuses_late, is_first, greatest_at, limited_at, why_is_refused}
 use Rattle.sheets.proofs.Law.{same_signed_lem, first_miss, refused_late, set_within, set_shaped, carried}
 
 -- the first of a list that passes a test is the first of which holds what the test decides
@@ -102,8 +102,8 @@ module _ (rows : List Row) (t : T (is_set rows)) where
       subst (λ (r : Returned). Result asked r 0 0) (cc)
       (row_not_in_set (set_shaped rows t) (carried rows t AllWithin (set_within rows t)) (subst (λ (n : ℕ). (asked ≡ 0) ⊎ (n < asked)) (sym (length-map rows (λ (row : Row). row.C))) outside))
 
-  pub why_refused_holds : (asked number row : ℕ) → T (why_refused rows asked number row) → Result asked (returned number row) 0 0
-  unfolding why_refused
+  pub why_refused_holds : (asked number row : ℕ) → T (why_is_refused rows asked number row) → Result asked (returned number row) 0 0
+  unfolding why_is_refused
   why_refused_holds zero number row s = not_in_set 0 (inl refl) number row s
   why_refused_holds (suc i) number row s = go (ltb i (length rows)) refl s
     where

@@ -27,8 +27,8 @@ use Rattle.texts.specs.Text.{in_front, lines_of, fields_of, held, number_from, n
 use Rattle.texts.specs.Table.{judged, table_from, in_rows_place, on_cores, read_text}
 use Rattle.texts.specs.Forms.{joined}
 use Rattle.texts.specs.Columns.{line_of, all_names, certified_line, certified_lines, certified_text}
-use Rattle.sheets.specs.Sheets.{Sheet, set_accepted, set_refused, below_one, walk_yields, points_as_set, bound_on, slack_at, quotient_at, order_taken, listed, table_refused, limited_by, why_refused_lem, text_accepted, text_refused, text_tabled, Holds, sheets}
-use Rattle.sheets.proofs.Test.{same_list, one_of, is_set, is_table, text_of, refuses_with, misses_first, refuses_late, is_first, limited_at, why_refused, passes, each_passes}
+use Rattle.sheets.specs.Sheets.{Sheet, set_accepted, set_refused, below_one, walk_yields, points_as_set, bound_on, slack_at, quotient_at, order_taken, listed, table_refused, limited_by, why_refused, text_accepted, text_refused, text_tabled, Holds, sheets}
+use Rattle.sheets.proofs.Test.{same_list, one_of, is_set, is_table, text_of, refuses_with, misses_first, refuses_late, is_first, limited_at, why_is_refused, passes, each_passes}
 use Rattle.sheets.proofs.Law.{same_list_lem, same_signed_lem, one_of_lem, each_place, accepted_holds, misses_holds}
 use Rattle.sheets.proofs.Certificate.{listed_holds, refused_holds}
 use Rattle.sheets.proofs.TextCertificate.{text_accepted_holds, text_refused_holds, text_tabled_holds}
@@ -71,8 +71,8 @@ sheet_holds (table_refused table number row) t =
 sheet_holds (limited_by rows row limiting p) t =
     let limits = limited_at rows row limiting p in
     limited_holds rows (and_first (is_set rows) limits t) row limiting p (and_second (is_set rows) limits t)
-sheet_holds (why_refused_lem rows asked number row) t =
-    let refuses = why_refused rows asked number row in
+sheet_holds (why_refused rows asked number row) t =
+    let refuses = why_is_refused rows asked number row in
     why_refused_holds rows (and_first (is_set rows) refuses t) asked number row (and_second (is_set rows) refuses t)
 sheet_holds (text_accepted cores text written) t = λ lent. text_accepted_holds cores text lent written t
 sheet_holds (text_refused cores text number row) t = λ lent. text_refused_holds cores text lent number row t
@@ -89,7 +89,7 @@ each_holds (first ∷ others) t sheet m = go (each_holds others (and_second (pas
 
 -- the test, computed over the whole list
 all_pass : T (each_passes sheets)
-unfolding sheets each_passes passes same_list one_of is_set is_table misses_first refuses_late is_first limited_at why_refused up_from keep sum every insert sort best rivals levels ceil demand load climb outcome on_time last_multiple walk points slack floor_div times quotient bound point_allowance allowance core_allowance work core_rows place_on_core taken takes candidate_at takers chosen_of step_of run figures_of certificate_of certificate ascii header_line digits_before decimal row_line row_lines smallest_allowance system_allowance listing refusal in_front lines_of fields_of held number_from number_in row_from row_in names same_bytes hold with_row rows_from headed textIs judged table_from in_rows_place on_cores read_text joined line_of all_names certified_line certified_lines certified_text four_bytes table_records table_bytes flat_map
+unfolding sheets each_passes passes same_list one_of is_set is_table misses_first refuses_late is_first limited_at why_is_refused up_from keep sum every insert sort best rivals levels ceil demand load climb outcome on_time last_multiple walk points slack floor_div times quotient bound point_allowance allowance core_allowance work core_rows place_on_core taken takes candidate_at takers chosen_of step_of run figures_of certificate_of certificate ascii header_line digits_before decimal row_line row_lines smallest_allowance system_allowance listing refusal in_front lines_of fields_of held number_from number_in row_from row_in names same_bytes hold with_row rows_from headed textIs judged table_from in_rows_place on_cores read_text joined line_of all_names certified_line certified_lines certified_text four_bytes table_records table_bytes flat_map
 all_pass = tt
 
 -- EVERY SHEET HOLDS

@@ -23,7 +23,7 @@ use Rattle.listing.specs.Listing.{listing, refusal}
 use Rattle.records.specs.Report.{table_bytes}
 use Rattle.texts.specs.Table.{read_text}
 use Rattle.texts.specs.Columns.{certified_text}
-use Rattle.sheets.specs.Sheets.{Sheet, set_accepted, set_refused, below_one, walk_yields, points_as_set, bound_on, slack_at, quotient_at, order_taken, listed, table_refused, limited_by, why_refused_lem, text_accepted, text_refused, text_tabled}
+use Rattle.sheets.specs.Sheets.{Sheet, set_accepted, set_refused, below_one, walk_yields, points_as_set, bound_on, slack_at, quotient_at, order_taken, listed, table_refused, limited_by, why_refused, text_accepted, text_refused, text_tabled}
 
 -- whether two lists are the same
 unfoldable pub same_list : List ℕ → List ℕ → Bool
@@ -84,9 +84,9 @@ limited_at rows (suc i) zero p = false
 limited_at rows (suc i) (suc k) p = on_time rows && (ltb i (length rows) && (misses_first (raised rows i (suc (allowance rows i))) k && is_first (greatest_at rows k i) (points rows k) p))
 
 -- whether the explanation of a row is refused with a number and a row: 10 with row 0 where there is no such row in the set, else 8
-unfoldable pub why_refused : List Row → ℕ → ℕ → ℕ → Bool
-why_refused rows zero number row = eqb 10 number && eqb 0 row
-why_refused rows (suc i) number row = elim (ltb i (length rows)) [ true ↦ refuses_late rows number row | false ↦ eqb 10 number && eqb 0 row ]
+unfoldable pub why_is_refused : List Row → ℕ → ℕ → ℕ → Bool
+why_is_refused rows zero number row = eqb 10 number && eqb 0 row
+why_is_refused rows (suc i) number row = elim (ltb i (length rows)) [ true ↦ refuses_late rows number row | false ↦ eqb 10 number && eqb 0 row ]
 
 -- whether a certificate of rows is written so
 abbrev pub written_as : List Row → Certificate → List ℕ → Bool
@@ -123,7 +123,7 @@ passes (order_taken rows order) = same_list (taken rows) order
 passes (listed table text) = is_table table && same_list (text_of (certificate allowance_fit table)) text
 passes (table_refused table number row) = is_table table && refuses_with (certificate allowance_fit table) number row
 passes (limited_by rows row limiting p) = is_set rows && limited_at rows row limiting p
-passes (why_refused_lem rows asked number row) = is_set rows && why_refused rows asked number row
+passes (why_refused rows asked number row) = is_set rows && why_is_refused rows asked number row
 passes (text_accepted cores text written) = accepted_as (read_text cores text) written
 passes (text_refused cores text number row) = refused_as (read_text cores text) number row
 passes (text_tabled cores text bytes) = tabled_as (read_text cores text) bytes

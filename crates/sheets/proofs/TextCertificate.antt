@@ -38,7 +38,7 @@ module _ (cores : ℕ) (text lent : List ℕ) where
     where
       stopped : (t : Table) → read_text cores text ≡ table t → (c : Certificate) → IsCertificate allowance_fit t c → T (refuses_with c number row) → RefusedWith (returned number row)
       stopped t reads (certified all) is stops = absurd stops
-      stopped t reads (no_core_takes i) is stops = subst RefusedWith (same_returned 6 (suc i) number row stops) (TextAnswered.no_core_takes_lem t i reads is)
+      stopped t reads (no_core_takes i) is stops = subst RefusedWith (same_returned 6 (suc i) number row stops) (TextAnswered.no_core_takes_it t i reads is)
 
       go : (reading : Reading) → read_text cores text ≡ reading → T (refused_as reading number row) → RefusedWith (returned number row)
       go (table t) reads tests =

@@ -30,7 +30,7 @@ pub data Sheet : Type 0 where
   listed : Table → List ℕ → Sheet
   table_refused : Table → ℕ → ℕ → Sheet
   limited_by : List Row → ℕ → ℕ → ℕ → Sheet
-  why_refused_lem : List Row → ℕ → ℕ → ℕ → Sheet
+  why_refused : List Row → ℕ → ℕ → ℕ → Sheet
   text_accepted : ℕ → List ℕ → List ℕ → Sheet
   text_refused : ℕ → List ℕ → ℕ → ℕ → Sheet
   text_tabled : ℕ → List ℕ → List ℕ → Sheet
@@ -69,7 +69,7 @@ Holds (listed table text) = Listed allowance_fit (table_bytes table) text
 Holds (table_refused table number row) =
     (report : List ℕ) → report_length (length table.rows) ≤ length report → TableAnswered allowance_fit (table_bytes table) report (returned number row) report
 Holds (limited_by rows asked limiting p) = Explained (executions rows) (deadlines rows) (periods rows) asked (returned 0 0) limiting p
-Holds (why_refused_lem rows asked number row) = Explained (executions rows) (deadlines rows) (periods rows) asked (returned number row) 0 0
+Holds (why_refused rows asked number row) = Explained (executions rows) (deadlines rows) (periods rows) asked (returned number row) 0 0
 Holds (text_accepted cores text written) =
     (lent : List ℕ)
     → (length written ≤ length lent → TextAnswered allowance_fit cores text lent (returned 0 0) (length written) (filled written lent))
@@ -174,10 +174,10 @@ sheets =
     -- 1/3/3 is limited by 2/5/5 at 3, the first of two points with the quotient 0
     ∷ limited_by (row 1 3 3 ∷ row 2 5 5 ∷ []) 1 2 3
     -- refused: rows 0 and 5 of the four with 10, row 0; row 1 of sheet 8, where row 2 misses, with 8, and a row 3 of it with 10 before that
-    ∷ why_refused_lem the_four 0 10 0
-    ∷ why_refused_lem the_four 5 10 0
-    ∷ why_refused_lem (row 5 10 10 ∷ row 6 14 14 ∷ []) 1 8 2
-    ∷ why_refused_lem (row 5 10 10 ∷ row 6 14 14 ∷ []) 3 10 0
+    ∷ why_refused the_four 0 10 0
+    ∷ why_refused the_four 5 10 0
+    ∷ why_refused (row 5 10 10 ∷ row 6 14 14 ∷ []) 1 8 2
+    ∷ why_refused (row 5 10 10 ∷ row 6 14 14 ∷ []) 3 10 0
     -- document 02, request 2: the four rows on two cores with three columns more, also quoted throughout; the text that is written is itself not read
     ∷ text_accepted 2 text_of_the_four columns_of_the_four
     ∷ text_accepted 2 quoted_text_of_the_four columns_of_the_four

@@ -27,7 +27,7 @@ reading_not_7 cores text number row is-refused seven = let nine = (text_refused 
 
 pub never_too_short : {rule : Rule} {cores : ℕ} {text lent : List ℕ} {returns : Returned} {n : ℕ} {after : List ℕ} → 1654 ≤ length lent → TextAnswered rule cores text lent returns n after → returns.number ≡ 7 → ⊥
 never_too_short {cores = cores} {text = text} long (TextAnswered.not_a_table number row p) seven = reading_not_7 cores text number row p seven
-never_too_short long (TextAnswered.no_core_takes_lem t i p s) seven = omega arith
+never_too_short long (TextAnswered.no_core_takes_it t i p s) seven = omega arith
 never_too_short {rule = rule} {cores = cores} {text = text} long (TextAnswered.output_too_short t all p c short) seven = omega (arith, written_length rule t all (read_text_within cores text t p) c)
 never_too_short long (TextAnswered.accepted t all p c fits) seven = omega arith
 
@@ -39,7 +39,7 @@ table_never_too_short long (TextTabled.accepted t p fits) seven = omega arith
 -- how many bytes are written
 pub text_written_length : {rule : Rule} {cores : ℕ} {text lent : List ℕ} {returns : Returned} {n : ℕ} {after : List ℕ} → TextAnswered rule cores text lent returns n after → n ≤ 1654
 text_written_length (TextAnswered.not_a_table number row p) = omega arith
-text_written_length (TextAnswered.no_core_takes_lem t i p s) = omega arith
+text_written_length (TextAnswered.no_core_takes_it t i p s) = omega arith
 text_written_length (TextAnswered.output_too_short t all p c short) = omega arith
 text_written_length {rule = rule} {cores = cores} {text = text} (TextAnswered.accepted t all p c fits) = written_length rule t all (read_text_within cores text t p) c
 

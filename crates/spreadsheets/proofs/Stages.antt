@@ -25,7 +25,7 @@ use Rattle.service.specs.Text.{TextAnswered, TextTabled}
 module _ (cores : ℕ) (text lent : List ℕ) {read : Read} (table_read : TableRead (read_text cores text) read) where
   module _ {certificate : Certificate} where
     pub refusal_answered : IsHeld (held_table read) certificate → (number_of certificate.answer ≡ 0 → ⊥) → TextAnswered allowance_fit cores text lent (returned_by certificate.answer) 0 lent
-    refusal_answered = was_stopped (λ answer. TextAnswered allowance_fit cores text lent (returned_by answer) 0 lent) (λ i stop. TextAnswered.no_core_takes_lem (held_table read) i table_read.is_table_lem stop)
+    refusal_answered = was_stopped (λ answer. TextAnswered allowance_fit cores text lent (returned_by answer) 0 lent) (λ i stop. TextAnswered.no_core_takes_it (held_table read) i table_read.is_table_lem stop)
 
     -- a sheet that begins with the text of the table and its figures
     module _

@@ -19,7 +19,7 @@ module _ {rule : Rule} {bytes : List ℕ} where
   pub listed_length : {lines : List ℕ} → Listed rule bytes lines → length lines ≤ 1102
   listed_length (Listed.not_a_table number row refused) =
       let small = refused_from_1_to_5 bytes number row refused in refusal_length number row (omega (arith, small.1)) (omega (arith, small.2))
-  listed_length (Listed.no_core_takes_lem t i reads stopped) =
+  listed_length (Listed.no_core_takes_it t i reads stopped) =
       let within = read_table_within bytes t reads in
       refusal_length 6 _ (omega arith) (omega (arith, (underway rule t stopped.moment).left_in_table.0, within.no_25th_row))
   listed_length (Listed.accepted t all reads c) =
@@ -29,7 +29,7 @@ module _ {rule : Rule} {bytes : List ℕ} where
   pub listed_some : {lines : List ℕ} → Listed rule bytes lines → 1 ≤ length lines
   unfolding listing refusal ascii
   listed_some (Listed.not_a_table number row refused) = omega arith
-  listed_some (Listed.no_core_takes_lem t i reads stopped) = omega arith
+  listed_some (Listed.no_core_takes_it t i reads stopped) = omega arith
   listed_some (Listed.accepted t all reads c) = simp length-append (omega (arith, header_line_length))
 
   -- so 1102 bytes are enough for every table

@@ -20,7 +20,7 @@ module _ {bytes : List ℕ} {read : Read} (table_read : TableRead (read_table by
       → TableAnswered allowance_fit bytes report (returned_by certificate.answer) report
   refusal_answered report long =
       was_stopped (λ answer. TableAnswered allowance_fit bytes report (returned_by answer) report)
-      (λ i stop. TableAnswered.no_core_takes_lem (held_table read) i table_read.is_table_lem (subst (λ (n : ℕ). report_length n ≤ length report) (sym table_read.many) long) stop)
+      (λ i stop. TableAnswered.no_core_takes_it (held_table read) i table_read.is_table_lem (subst (λ (n : ℕ). report_length n ≤ length report) (sym table_read.many) long) stop)
 
   pub refusal_listed : IsHeld (held_table read) certificate → (number_of certificate.answer ≡ 0 → ⊥) → Listed allowance_fit bytes (refusal (number_of certificate.answer) (row_of certificate.answer))
-  refusal_listed = was_stopped (λ answer. Listed allowance_fit bytes (refusal (number_of answer) (row_of answer))) (λ i stop. Listed.no_core_takes_lem (held_table read) i table_read.is_table_lem stop)
+  refusal_listed = was_stopped (λ answer. Listed allowance_fit bytes (refusal (number_of answer) (row_of answer))) (λ i stop. Listed.no_core_takes_it (held_table read) i table_read.is_table_lem stop)

@@ -12,7 +12,7 @@ use Rattle.theory.specs.Gather.{All, every}
 use Rattle.theory.proofs.Each.{all_map, every_all}
 use Rattle.listing.specs.Listing.{ascii}
 use Rattle.texts.specs.Text.{comma, lines_of, fields_of, row_in, names, hold, of_rows, with_row, rows_from, headed, text_of}
-use Rattle.texts.specs.Forms.{joined, HeaderLine, header, RowLine, numbers, RowLines, no_rows, with_row_lem, Written, written}
+use Rattle.texts.specs.Forms.{joined, HeaderLine, header, RowLine, numbers, RowLines, no_rows, with_this_row, Written, written}
 use Rattle.texts.proofs.Lines.{Ordinary, plain_ordinary}
 use Rattle.texts.proofs.Whole.{InLine, line_in_front}
 use Rattle.texts.proofs.Joined.{OrdinaryFields, joined_in_line, joined_read}
@@ -57,7 +57,7 @@ row_read {row} (numbers {c} {d} {t} is_c is_d is_t) =
 pub row_lines_read : {rows : List Row} {text : List ℕ} (number : ℕ) → RowLines rows text → rows_from number (lines_of text) ≡ of_rows rows
 unfolding lines_of rows_from with_row
 row_lines_read number no_rows = refl
-row_lines_read number (with_row_lem {row} {line} {others} {rest} {rows} is-line behind is-others) =
+row_lines_read number (with_this_row {row} {line} {others} {rest} {rows} is-line behind is-others) =
     let first = row_read is-line in
     rw (line_in_front line first.own first.not_empty behind, first.right, rows_from, row_lines_read (suc number) is-others)
 

@@ -14,7 +14,7 @@ use Rattle.theory.specs.Row.{Row}
 use Rattle.theory.proofs.Limits.{both_pass}
 use Rattle.listing.specs.Listing.{ascii}
 use Rattle.texts.specs.Text.{Text, quote, lines_of, fields_of, held, number_in, row_in, names, hold, of_rows, not_of_the_form, with_row, rows_from, headed, text_of}
-use Rattle.texts.specs.Forms.{FieldOf, plain, quoted, NumberField, digits, joined, HeaderLine, header, RowLine, numbers, RowLines, no_rows, with_row_lem, Written, written}
+use Rattle.texts.specs.Forms.{FieldOf, plain, quoted, NumberField, digits, joined, HeaderLine, header, RowLine, numbers, RowLines, no_rows, with_this_row, Written, written}
 use Rattle.texts.proofs.Forms.{written_read}
 use Rattle.texts.proofs.ThreeFields.{row_numbers, Pairwise, no_parts, two, Holds, held_names}
 use Rattle.texts.proofs.Parted.{FirstLine, first_line, no_lines, fields_joined}
@@ -93,7 +93,7 @@ row_lines_lem (line ∷ lines) number rows text parted are_rows =
     go (some row) is_row (not_of_the_form bad) are-further is-rows written_behind = absurd (no_form_no_rows is-rows)
     go (some row) is_row (of_rows others) are-further is-rows written_behind =
         let all_rows : row ∷ others ≡ rows = cc in
-        let lines-written = with_row_lem (row_line line row is_row) first.behind (written_behind others first.others first.lines_of_others are-further) in
+        let lines-written = with_this_row (row_line line row is_row) first.behind (written_behind others first.others first.lines_of_others are-further) in
         subst (λ (some_rows : List Row). RowLines some_rows text) all_rows (subst (RowLines (row ∷ others)) (sym first.is_text) lines-written)
 
 -- lines that are a header and rows

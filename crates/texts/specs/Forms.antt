@@ -49,7 +49,7 @@ pub data Behind : List ℕ → List ℕ → Type 0 where
 -- a line for each row
 pub data RowLines : List Row → List ℕ → Type 0 where
   no_rows : RowLines [] []
-  with_row_lem : {row : Row} {line others rest : List ℕ} {rows : List Row} → RowLine row line → Behind others rest → RowLines rows others → RowLines (row ∷ rows) (line ++ rest)
+  with_this_row : {row : Row} {line others rest : List ℕ} {rows : List Row} → RowLine row line → Behind others rest → RowLines rows others → RowLines (row ∷ rows) (line ++ rest)
 
 -- A TEXT THAT IS A TABLE'S ROWS: the header's line, then theirs
 pub data Written : List Row → List ℕ → Type 0 where

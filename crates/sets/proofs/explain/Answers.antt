@@ -48,7 +48,7 @@ limit_of-limit-requires c =
     record {
       shaped = (passed.shaped, passed.within);
       order_value = timed.ranked;
-      by_index = λ k inside. timed.in_time_lem k (in_rows _ _ _ passed.shaped inside);
+      by_index = λ k inside. timed.rows_in_time k (in_rows _ _ _ passed.shaped inside);
       i_in_bounds = omega arith;
     }
 
