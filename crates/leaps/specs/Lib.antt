@@ -1,0 +1,3 @@
+-- The leap of a climb, and where a row's climb may start.
+pub mod Leap
+pub mod Start
