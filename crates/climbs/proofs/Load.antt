@@ -12,7 +12,7 @@ use Rattle.theory.specs.Gather.{sum}
 use Rattle.theory.specs.Rank.{above, rivals, levels}
 use Rattle.theory.specs.Response.{ceil, demand, load}
 use Rattle.theory.specs.Lists.{Shaped, rows_of}
-use Rattle.theory.proofs.Member.{all_at, mem_getD}
+use Rattle.theory.proofs.Member.{all_at, mem_get_or}
 use Rattle.theory.proofs.Ceil.{ceil_mono}
 use Rattle.theory.proofs.Demand.{ask}
 use Rattle.theory.proofs.Sum.{sum_sort}
@@ -110,4 +110,4 @@ module _ (cs ds ts : List ℕ) (shaped : Shaped cs ds ts) where
             → WithinLimits (record { C = get_or cs (get_or hs j 0) 0; D = get_or ds (get_or hs j 0) 0; T = get_or ts (get_or hs j 0) 0 })
         limits j h =
             limits_at (get_or hs j 0)
-            (omega (arith, (all_at (λ x. (x < length ds) × T (above_by ds x k)) (mem_getD hs j (inside j h)) (all_rivals_in ds k)).0, shaped.as_many_deadlines))
+            (omega (arith, (all_at (λ x. (x < length ds) × T (above_by ds x k)) (mem_get_or hs j (inside j h)) (all_rivals_in ds k)).0, shaped.as_many_deadlines))

@@ -18,8 +18,8 @@ use Rattle.fields.proofs.Followed.{NotThree, not_third, all_three, lines_left}
 
 -- the number that is there
 number_there : (found : Option ℕ) → IsSome found → (n : ℕ) × (found ≡ some n)
-number_there none Some-number = absurd Some-number
-number_there (some n) Some-number = (n, refl)
+number_there none some_number = absurd some_number
+number_there (some n) some_number = (n, refl)
 
 module _ (text : List ℕ) (at : ℕ) where
   -- a line with a field that is not so is no row

@@ -7,7 +7,7 @@ use mathlib.Core.List.{List, []}
 use lib.ListN.{length, get_or, drop, drop_of_length-le}
 use Rattle.texts.specs.Text.{LF, CR, comma, begins_with}
 use Rattle.texts.specs.Rest.{lines_behind, rest_of_field, fields_behind}
-use Rattle.texts.proofs.Lines.{lines_stay_behind, comma_ends_field, fields_behind_comma, no_comma_no_fields, line_not_ended, LineEnds, text_ends, LF-ends, CR-LF-ends}
+use Rattle.texts.proofs.Lines.{lines_stay_behind, comma_ends_field, fields_behind_comma, no_comma_no_fields, line_not_ended, LineEnds, text_ends, LF_ends, CR_LF_ends}
 use Rattle.fields.specs.declared.Behind.TheVariants.{Comma, LineEnd}
 use Rattle.fields.specs.Found.{Between}
 use Rattle.fields.proofs.Begins.{one_byte, stands_there}
@@ -37,15 +37,15 @@ module _ (text : List ℕ) (at : ℕ) where
   pub text_end : at ≡ length text → LineEnds (drop at text) (drop at text)
   text_end past = let nothing = drop_of_length-le text {i = at} (omega arith) in rw nothing text_ends
 
-  pub LF-end : at < length text → get_or text at 0 ≡ LF → LineEnds (drop at text) (drop (at + 1) text)
-  LF-end inside is-LF = rw (one_byte text at inside, is-LF) (LF-ends (drop (at + 1) text))
+  pub LF_end : at < length text → get_or text at 0 ≡ LF → LineEnds (drop at text) (drop (at + 1) text)
+  LF_end inside is-LF = rw (one_byte text at inside, is-LF) (LF_ends (drop (at + 1) text))
 
   module _ (inside : at < length text) where
-    pub CR-LF-end : get_or text at 0 ≡ CR → begins_with LF (drop (at + 1) text) ≡ true → LineEnds (drop at text) (drop (at + 2) text)
-    CR-LF-end is-CR begins =
+    pub CR_LF_end : get_or text at 0 ≡ CR → begins_with LF (drop (at + 1) text) ≡ true → LineEnds (drop at text) (drop (at + 2) text)
+    CR_LF_end is-CR begins =
         let there = stands_there text (at + 1) LF begins in
         let next : at + 1 + 1 ≡ at + 2 = omega arith in
-        rw (one_byte text at inside, is-CR, there.1, next) (CR-LF-ends (drop (at + 2) text))
+        rw (one_byte text at inside, is-CR, there.1, next) (CR_LF_ends (drop (at + 2) text))
 
     -- another byte
     pub no_line_end :

@@ -7,7 +7,7 @@ use lib.ListN.{length, get_or, drop, set, length-set, drop_of_length-le}
 use lib.Seq.{drop-cons, get_or-set_same, get_or-set_other}
 use Rattle.theory.specs.Gather.{All}
 use Rattle.theory.proofs.Each.{all_map}
-use Rattle.theory.proofs.Member.{all_at, mem_getD}
+use Rattle.theory.proofs.Member.{all_at, mem_get_or}
 use Rattle.theory.proofs.Order.{Ordered}
 use Rattle.figures.specs.Scattered.{scattered}
 
@@ -52,4 +52,4 @@ scattered_done list places numbers j h = rw (drop_of_length-le places h) refl
 
 -- the place of the next number is inside
 pub next_place_inside : (list places : List ℕ) (j : ℕ) → All (λ h. h < length list) places → j < length places → get_or places j 0 < length list
-next_place_inside list places j inside h = all_at (λ p. p < length list) (mem_getD places j h) inside
+next_place_inside list places j inside h = all_at (λ p. p < length list) (mem_get_or places j h) inside

@@ -65,9 +65,9 @@ module _ {best : List ℤ} {places : List ℕ} {j : ℕ} {before after : List �
       → ((i x : ℕ) → Both i x → ((x < j) × (get_or places x 0 ≡ i)) ⊎ ((x ≡ j) × (at ≡ i)))
       → (i : ℕ)
       → LoweredTo (λ x. get_or best x (pos 0)) (Both i) (get_or before i (pos 0)) (get_or next i (pos 0))
-  then_one at inside stored Both from_First from-entry of_both i =
+  then_one at inside stored Both from_first from-entry of_both i =
       moved_in_two Down ≤ℤ_refl down_trans _ _ (λ x. (x ≡ j) × (at ≡ i)) (Both i)
-      (from_First i) (λ x h. subst (Both i) (sym h.0) (from-entry i h.1)) (of_both i) _ _ _ (so_far.lowered i)
+      (from_first i) (λ x h. subst (Both i) (sym h.0) (from-entry i h.1)) (of_both i) _ _ _ (so_far.lowered i)
       (lowered_entry (λ x. get_or best x (pos 0)) at j after next (omega (arith, so_far.as_long)) (stored ∙ ap (λ (b : ℤ). set after at (smaller (get_or after at (pos 0)) b)) is_bound) i)
 
   -- to one bound more, which is on the next place

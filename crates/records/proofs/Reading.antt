@@ -54,9 +54,9 @@ module _ (left cores : ℕ) (rows : List Row) (t : Table) where
         few = suc-le-suc behind.few;
         more_within = within_cons (row_in body) behind.more within behind.more_within;
         same_bytes = λ below.
-            let body_Below = all_below_drop 256 1 (2 ∷ body) below in
+            let body_below = all_below_drop 256 1 (2 ∷ body) below in
             rw (← same)
-            (ap (λ bytes. 2 ∷ bytes) (sym (whole_body body whole body_Below) ∙ ap (row_body (row_in body)) (behind.same_bytes (all_below_drop 256 12 body body_Below))));
+            (ap (λ bytes. 2 ∷ bytes) (sym (whole_body body whole body_below) ∙ ap (row_body (row_in body)) (behind.same_bytes (all_below_drop 256 12 body body_below))));
       }
 
 -- a table that is read behind the rows so far

@@ -27,14 +27,14 @@ same_number m n m-below n-below same = cc (number_reads_back m m-below, number_r
 -- the figures of two kind 3 records that begin the same bytes are the same
 same_figures : (x y : Figures) (after other : List ℕ) → FitRecord x → FitRecord y → figures_record x ++ after ≡ figures_record y ++ other → x ≡ y
 unfolding four_bytes
-same_figures x y after other x_Fits y-fits same =
+same_figures x y after other x_fits y-fits same =
     let cores : x.core ≡ y.core = cc in
     let responses : four_bytes x.response ≡ four_bytes y.response = cc in
     let allowances : four_bytes x.allowance ≡ four_bytes y.allowance = cc in
     λ i. record {
       core = cores i;
-      response = same_number x.response y.response x_Fits.response_below y-fits.response_below responses i;
-      allowance = same_number x.allowance y.allowance x_Fits.allowance_below y-fits.allowance_below allowances i;
+      response = same_number x.response y.response x_fits.response_below y-fits.response_below responses i;
+      allowance = same_number x.allowance y.allowance x_fits.allowance_below y-fits.allowance_below allowances i;
     }
 
 -- kind 3 records before a kind 4 are of one list of figures only: the kind tells where they end

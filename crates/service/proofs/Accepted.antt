@@ -24,7 +24,7 @@ numbers_differ same differ = absurd (differ (ap (λ (r : Returned). r.number) sa
 
 -- so a refusal is not accepted
 pub not_accepted : {X : Type 0} {number row : ℕ} → 1 ≤ number → returned number row ≡ returned 0 0 → X
-not_accepted Some-number accepted = numbers_differ accepted (λ zero_number. omega arith)
+not_accepted some_number accepted = numbers_differ accepted (λ zero_number. omega arith)
 
 -- the table that bytes are read as and its figures, in the report that is left
 pub record ReportOf (rule : Rule) (bytes report after : List ℕ) : Type 0 where

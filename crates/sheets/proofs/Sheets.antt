@@ -23,7 +23,7 @@ use Rattle.placement.specs.Computed.{takes, candidate_at, takers, chosen_of, ste
 use Rattle.listing.specs.Listing.{ascii, header_line, digits_before, decimal, row_line, row_lines, smallest_allowance, system_allowance, listing, refusal}
 use Rattle.records.specs.Number.{four_bytes}
 use Rattle.records.specs.Report.{table_records, table_bytes}
-use Rattle.texts.specs.Text.{in_front, lines_of, fields_of, held, number_from, number_in, row_from, row_in, names, same_bytes, hold, with_row, rows_from, headed, text_of as textIs}
+use Rattle.texts.specs.Text.{in_front, lines_of, fields_of, held, number_from, number_in, row_from, row_in, names, same_bytes, hold, with_row, rows_from, headed, text_of as text_is}
 use Rattle.texts.specs.Table.{judged, table_from, in_rows_place, on_cores, read_text}
 use Rattle.texts.specs.Forms.{joined}
 use Rattle.texts.specs.Columns.{line_of, all_names, certified_line, certified_lines, certified_text}
@@ -89,7 +89,7 @@ each_holds (first ∷ others) t sheet m = go (each_holds others (and_second (pas
 
 -- the test, computed over the whole list
 all_pass : T (each_passes sheets)
-unfolding sheets each_passes passes same_list one_of is_set is_table misses_first refuses_late is_first limited_at why_is_refused up_from keep sum every insert sort best rivals levels ceil demand load climb outcome on_time last_multiple walk points slack floor_div times quotient bound point_allowance allowance core_allowance work core_rows place_on_core taken takes candidate_at takers chosen_of step_of run figures_of certificate_of certificate ascii header_line digits_before decimal row_line row_lines smallest_allowance system_allowance listing refusal in_front lines_of fields_of held number_from number_in row_from row_in names same_bytes hold with_row rows_from headed textIs judged table_from in_rows_place on_cores read_text joined line_of all_names certified_line certified_lines certified_text four_bytes table_records table_bytes flat_map
+unfolding sheets each_passes passes same_list one_of is_set is_table misses_first refuses_late is_first limited_at why_is_refused up_from keep sum every insert sort best rivals levels ceil demand load climb outcome on_time last_multiple walk points slack floor_div times quotient bound point_allowance allowance core_allowance work core_rows place_on_core taken takes candidate_at takers chosen_of step_of run figures_of certificate_of certificate ascii header_line digits_before decimal row_line row_lines smallest_allowance system_allowance listing refusal in_front lines_of fields_of held number_from number_in row_from row_in names same_bytes hold with_row rows_from headed text_is judged table_from in_rows_place on_cores read_text joined line_of all_names certified_line certified_lines certified_text four_bytes table_records table_bytes flat_map
 all_pass = tt
 
 -- EVERY SHEET HOLDS

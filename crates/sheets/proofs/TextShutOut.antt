@@ -36,8 +36,8 @@ abbrev pub modulo32 : Row → Row
 modulo32 r = record { C = r.C % 4_294_967_296; D = r.D % 4_294_967_296; T = r.T % 4_294_967_296 }
 
 -- a header with LF alone, and lines behind it
-abbrev headerLF : List ℕ → List ℕ
-headerLF lines = ascii "wcet,deadline,period" ++ (LF ∷ lines)
+abbrev header_LF : List ℕ → List ℕ
+header_LF lines = ascii "wcet,deadline,period" ++ (LF ∷ lines)
 
 -- the row 5/5/5 as a text, and what is written for it
 abbrev fives : List ℕ
@@ -56,7 +56,7 @@ sheet_four = record { cores = 2; rows = row 6 10 10 ∷ row 4 10 10 ∷ row 4 10
 
 -- what these and others come to, computed
 known : T (passes (text_accepted 1 fives fives_written))
-    × T (passes (text_accepted 1 (headerLF (ascii "5,5,5")) fives_written))
+    × T (passes (text_accepted 1 (header_LF (ascii "5,5,5")) fives_written))
     × T (passes (text_refused 1 beyond 4 1))
     × T (passes (text_refused 1 (under_header (ascii "2,1,1\n1,1\n")) 9 3))
     × T (passes (text_refused 1 (under_header (ascii "1,,2\n")) 9 2))
@@ -117,7 +117,7 @@ module _ (answer : ℕ → List ℕ → List ℕ → Returned) (written : ℕ �
   pub refusing_LF_is_shut_out : ((cores : ℕ) (front behind bytes : List ℕ) → (EndsIn CR front → ⊥) → answer cores (front ++ (LF ∷ behind)) bytes ≡ returned 0 0 → ⊥) → ⊥
   unfolding ascii
   refusing_LF_is_shut_out refuses =
-      refuses 1 (ascii "wcet,deadline,period") (ascii "5,5,5") lent (λ ends. let last = last_byte ends in omega arith) (on_accepted 1 (headerLF (ascii "5,5,5")) fives_written known.1 lent (omega arith))
+      refuses 1 (ascii "wcet,deadline,period") (ascii "5,5,5") lent (λ ends. let last = last_byte ends in omega arith) (on_accepted 1 (header_LF (ascii "5,5,5")) fives_written known.1 lent (omega arith))
 
   -- a line behind the last line end
   pub losing_the_last_line_is_shut_out :

@@ -10,7 +10,7 @@ use lib.Seq.{get_or-append_seam}
 use borrow.Author.Tests.{ne_eqb}
 use Rattle.listing.specs.Listing.{ascii}
 use Rattle.texts.specs.Text.{LF, CR, begins_with, in_front, lines_of, fields_of, held, names, same_bytes, hold, headed, text_of}
-use Rattle.texts.specs.Forms.{LineEnd, LF-alone, CR-LF}
+use Rattle.texts.specs.Forms.{LineEnd, LF_alone, CR_LF}
 use Rattle.texts.proofs.Lines.{stays_in_line}
 
 -- a text that ends in a byte
@@ -65,5 +65,5 @@ last_CR_LF_changes_nothing (byte ∷ text) no_LF = ap headed (same_last byte tex
 
 -- either end; in front of LF alone no CR stands
 pub last_end_changes_nothing : {end : List ℕ} (text : List ℕ) → LineEnd end → (EndsIn LF text → ⊥) → (EndsIn CR text → ⊥) → text_of (text ++ end) ≡ text_of text
-last_end_changes_nothing text LF-alone no_LF no_CR = sym (line_end_changes_nothing text [] no_CR) ∙ last_CR_LF_changes_nothing text no_LF
-last_end_changes_nothing text CR-LF no_LF no_CR = last_CR_LF_changes_nothing text no_LF
+last_end_changes_nothing text LF_alone no_LF no_CR = sym (line_end_changes_nothing text [] no_CR) ∙ last_CR_LF_changes_nothing text no_LF
+last_end_changes_nothing text CR_LF no_LF no_CR = last_CR_LF_changes_nothing text no_LF

@@ -9,7 +9,7 @@ use Rattle.theory.specs.Gather.{All}
 use Rattle.listing.proofs.Decimal.{decimal_from, IsDigit}
 use Rattle.texts.specs.Text.{LF, quote, comma, begins_with, lines_of, fields_of, number_in, text_of}
 use Rattle.texts.specs.Rest.{rest_of_line, lines_behind, rest_of_field, fields_behind}
-use Rattle.texts.specs.Forms.{digit_zero, FieldOf, plain, quoted, LineEnd, LF-alone, CR-LF}
+use Rattle.texts.specs.Forms.{digit_zero, FieldOf, plain, quoted, LineEnd, LF_alone, CR_LF}
 use Rattle.texts.proofs.Lines.{Ordinary, plain_ordinary, some_line, comma_ends_field, ordinary_in_field}
 use Rattle.texts.proofs.Digits.{zeros_digits, zeros_longer, zeros_read}
 use Rattle.texts.proofs.Fields.{field_holds, field_ordinary, field_longer, digits_plain}
@@ -36,8 +36,8 @@ field_ended : {behind : List ℕ} → FieldEnds behind → rest_of_field behind 
 unfolding lines_of fields_of
 field_ended at_the_end = refl
 field_ended (before_comma behind) = comma_ends_field behind
-field_ended (before_line_end behind LF-alone) = refl
-field_ended (before_line_end behind CR-LF) = refl
+field_ended (before_line_end behind LF_alone) = refl
+field_ended (before_line_end behind CR_LF) = refl
 
 -- a text that is not empty has a first line
 first_line : (field behind : List ℕ) → 1 ≤ length field → lines_of (field ++ behind) ≡ rest_of_line (field ++ behind) ∷ lines_behind (field ++ behind)

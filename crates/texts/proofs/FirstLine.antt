@@ -78,9 +78,9 @@ first_not (line ∷ lines) number broken = go (hold (fields_of line) names) refl
   where
     go : (holds : Bool) → hold (fields_of line) names ≡ holds → elim holds [ true ↦ rows_from 2 lines | false ↦ not_of_the_form 1 ] ≡ not_of_the_form number → FirstNot (line ∷ lines) number
     go true is-header is-broken = header_and_rows line lines is-header number (first_no_row lines 2 number is-broken)
-    go false no_Header is-broken =
+    go false no_header is-broken =
         let same : 1 ≡ number = cc in
-        subst (FirstNot (line ∷ lines)) same (λ place before. absurd (omega arith), λ is-line. true≢false (sym (header_read is-line).right ∙ no_Header))
+        subst (FirstNot (line ∷ lines)) same (λ place before. absurd (omega arith), λ is-line. true≢false (sym (header_read is-line).right ∙ no_header))
 
 -- THE LINE THAT A TEXT IS REFUSED WITH IS THE FIRST THAT IS NOT OF THE FORM
 pub refused_line_is_first : (text : List ℕ) (number : ℕ) → text_of text ≡ not_of_the_form number → FirstNotOfTheForm text number

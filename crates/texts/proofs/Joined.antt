@@ -8,7 +8,7 @@ use Rattle.theory.specs.Gather.{All}
 use Rattle.theory.proofs.Each.{all_append}
 use Rattle.texts.specs.Text.{LF, CR, comma, lines_of, fields_of}
 use Rattle.texts.specs.Columns.{line_of, first_columns}
-use Rattle.texts.specs.Forms.{joined, CR-LF}
+use Rattle.texts.specs.Forms.{joined, CR_LF}
 use Rattle.texts.proofs.Lines.{Ordinary}
 use Rattle.texts.proofs.Whole.{InLine, field_in_line, ended_line_in_front, field_in_front, last_field}
 
@@ -38,7 +38,7 @@ line_of_lem fields text = append_assoc (joined fields) (CR ∷ (LF ∷ [])) text
 
 -- the lines of a text with such a line in front
 pub line_of_read : (fields : List (List ℕ)) (text : List ℕ) → OrdinaryFields fields → lines_of (line_of fields ++ text) ≡ joined fields ∷ lines_of text
-line_of_read fields text own = ap lines_of (line_of_lem fields text) ∙ ended_line_in_front (joined fields) text (joined_in_line fields own) CR-LF
+line_of_read fields text own = ap lines_of (line_of_lem fields text) ∙ ended_line_in_front (joined fields) text (joined_in_line fields own) CR_LF
 
 -- and its first three columns
 pub first_columns_line : (field : List ℕ) (fields : List (List ℕ)) (text : List ℕ) → OrdinaryFields (field ∷ fields)

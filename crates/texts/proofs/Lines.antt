@@ -111,15 +111,15 @@ pub data Next (text : List ℕ) : Type 0 where
   line_goes : (byte : ℕ) (others : List ℕ) → text ≡ byte ∷ others → (byte ≡ LF → ⊥) → (byte ≡ CR → begins_with LF others ≡ false) → Next text
 
 -- an LF ends the line
-LF-ends-line : (text : List ℕ) → begins_with LF text ≡ true → rest_of_line text ≡ []
+LF_ends_line : (text : List ℕ) → begins_with LF text ≡ true → rest_of_line text ≡ []
 unfolding lines_of
-LF-ends-line [] begins = absurd (true≢false (sym begins))
-LF-ends-line (byte ∷ text) begins = rw (begins, lines_of)
+LF_ends_line [] begins = absurd (true≢false (sym begins))
+LF_ends_line (byte ∷ text) begins = rw (begins, lines_of)
 
 -- a CR before it belongs to the line's end
-CR-before-LF : (text : List ℕ) → begins_with LF text ≡ true → lines_of (CR ∷ text) ≡ lines_of text
+CR_before_LF : (text : List ℕ) → begins_with LF text ≡ true → lines_of (CR ∷ text) ≡ lines_of text
 unfolding lines_of
-CR-before-LF text begins = rw (begins, lines_of)
+CR_before_LF text begins = rw (begins, lines_of)
 
 pub next_of : (text : List ℕ) → Next text
 unfolding lines_of
@@ -132,7 +132,7 @@ next_of (byte ∷ text) = go (eqb byte LF) refl (begins_with LF text) refl
     go false is-LF true same = ended (eqb byte CR) refl
       where
         ended : (ends : Bool) → eqb byte CR ≡ ends → Next (byte ∷ text)
-        ended true ends = line_ends (ap (λ x. rest_of_line (x ∷ text)) (eqb-true byte CR ends) ∙ ap first_part (CR-before-LF text same) ∙ LF-ends-line text same)
+        ended true ends = line_ends (ap (λ x. rest_of_line (x ∷ text)) (eqb-true byte CR ends) ∙ ap first_part (CR_before_LF text same) ∙ LF_ends_line text same)
         ended false ends = line_goes byte text refl (eqb-false byte LF is-LF) (λ is-CR. absurd (eqb-false byte CR ends is-CR))
 
 -- a comma ends its field, and the fields behind it are those of the rest of the line
@@ -217,10 +217,10 @@ pub text_ends : LineEnds [] []
 unfolding lines_of fields_of
 text_ends = record { field_ends = refl; no_fields = refl; lines_follow = refl }
 
-pub LF-ends : (text : List ℕ) → LineEnds (LF ∷ text) text
+pub LF_ends : (text : List ℕ) → LineEnds (LF ∷ text) text
 unfolding lines_of fields_of
-LF-ends text = record { field_ends = refl; no_fields = refl; lines_follow = refl }
+LF_ends text = record { field_ends = refl; no_fields = refl; lines_follow = refl }
 
-pub CR-LF-ends : (text : List ℕ) → LineEnds (CR ∷ (LF ∷ text)) text
+pub CR_LF_ends : (text : List ℕ) → LineEnds (CR ∷ (LF ∷ text)) text
 unfolding lines_of fields_of
-CR-LF-ends text = record { field_ends = refl; no_fields = refl; lines_follow = refl }
+CR_LF_ends text = record { field_ends = refl; no_fields = refl; lines_follow = refl }

@@ -7,7 +7,7 @@ use lib.Dec.{eqb}
 use borrow.Author.Tests.{eqb-true}
 use Rattle.theory.proofs.Limits.{both_pass}
 use Rattle.texts.specs.Text.{LF, CR, comma, begins_with, in_front, lines_of, fields_of}
-use Rattle.texts.specs.Forms.{joined, LF-alone, CR-LF, Behind, line_end, end_of_text}
+use Rattle.texts.specs.Forms.{joined, LF_alone, CR_LF, Behind, line_end, end_of_text}
 use Rattle.texts.proofs.Lines.{some_field}
 
 -- a text whose lines are a first and others: the first, what stands behind it, and the text of the others
@@ -24,16 +24,16 @@ Parted text [] = text ≡ []
 Parted text (line ∷ lines) = FirstLine text line lines
 
 -- a byte that is LF
-LF-parted : (byte : ℕ) (text : List ℕ) → byte ≡ LF → FirstLine (byte ∷ text) [] (lines_of text)
-LF-parted byte text is-LF =
-    record { rest = byte ∷ text; others = text; is_text = refl; behind = subst (λ (b : ℕ). Behind text (b ∷ text)) (sym is-LF) (line_end text LF-alone); lines_of_others = refl }
+LF_parted : (byte : ℕ) (text : List ℕ) → byte ≡ LF → FirstLine (byte ∷ text) [] (lines_of text)
+LF_parted byte text is-LF =
+    record { rest = byte ∷ text; others = text; is_text = refl; behind = subst (λ (b : ℕ). Behind text (b ∷ text)) (sym is-LF) (line_end text LF_alone); lines_of_others = refl }
 
 -- a CR in front of one
-CR-LF-parted : (byte : ℕ) (text : List ℕ) → byte ≡ CR → begins_with LF text ≡ true → Parted (byte ∷ text) (lines_of text)
+CR_LF_parted : (byte : ℕ) (text : List ℕ) → byte ≡ CR → begins_with LF text ≡ true → Parted (byte ∷ text) (lines_of text)
 unfolding lines_of
-CR-LF-parted byte [] is-CR begins = absurd (true≢false (sym begins))
-CR-LF-parted byte (first ∷ text) is-CR begins =
-    rw (is-CR, eqb-true first LF begins) (record { rest = CR ∷ (LF ∷ text); others = text; is_text = refl; behind = line_end text CR-LF; lines_of_others = refl })
+CR_LF_parted byte [] is-CR begins = absurd (true≢false (sym begins))
+CR_LF_parted byte (first ∷ text) is-CR begins =
+    rw (is-CR, eqb-true first LF begins) (record { rest = CR ∷ (LF ∷ text); others = text; is_text = refl; behind = line_end text CR_LF; lines_of_others = refl })
 
 -- a byte of a line
 in_front_parted : (byte : ℕ) (text : List ℕ) (lines : List (List ℕ)) → Parted text lines → Parted (byte ∷ text) (in_front byte lines)
@@ -54,10 +54,10 @@ text_parted (byte ∷ text) = go (eqb byte LF) (eqb byte CR && begins_with LF te
   where
     go : (is-LF ends : Bool) → eqb byte LF ≡ is-LF → eqb byte CR && begins_with LF text ≡ ends → Parted text (lines_of text)
         → Parted (byte ∷ text) (elim is-LF [ true ↦ [] ∷ lines_of text | false ↦ elim ends [ true ↦ lines_of text | false ↦ in_front byte (lines_of text) ] ])
-    go true ends is-LF is-end further = LF-parted byte text (eqb-true byte LF is-LF)
+    go true ends is-LF is-end further = LF_parted byte text (eqb-true byte LF is-LF)
     go false true is-LF is-end further =
         let both = both_pass (eqb byte CR) (begins_with LF text) is-end in
-        CR-LF-parted byte text (eqb-true byte CR both.0) both.1
+        CR_LF_parted byte text (eqb-true byte CR both.0) both.1
     go false false is-LF is-end further = in_front_parted byte text (lines_of text) further
 
 -- A TEXT WITH A FIRST LINE

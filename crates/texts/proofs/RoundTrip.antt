@@ -17,7 +17,7 @@ use Rattle.texts.proofs.Judged.{within_judged}
 use Rattle.texts.proofs.Reading.{read_text_within, read_text_cores}
 use Rattle.texts.specs.Table.{on_cores, table_from, read_text}
 use Rattle.texts.specs.Columns.{all_names, certified_line, certified_lines, certified_text, first_columns}
-use Rattle.texts.specs.Forms.{joined, plain, NumberField, digits, header, numbers, CR-LF, line_end, RowLines, no_rows, with_this_row, Written, written}
+use Rattle.texts.specs.Forms.{joined, plain, NumberField, digits, header, numbers, CR_LF, line_end, RowLines, no_rows, with_this_row, Written, written}
 use Rattle.texts.proofs.Lines.{Ordinary}
 use Rattle.texts.proofs.Fields.{number_field_ordinary}
 use Rattle.texts.proofs.Forms.{name_ordinary, written_read}
@@ -47,7 +47,7 @@ first_columns_lines (row ∷ rows) (figures ∷ all) as_many =
     let line = first_columns_line (decimal row.C) (decimal row.D ∷ (decimal row.T ∷ (decimal figures.core ∷ (decimal figures.response ∷ (decimal figures.allowance ∷ []))))) (certified_lines rows all)
     (own row.C, (own row.D, (own row.T, (own figures.core, (own figures.response, (own figures.allowance, tt)))))) in
     subst (RowLines (row ∷ rows)) (sym (line ∙ line_of_lem (decimal row.C ∷ (decimal row.D ∷ (decimal row.T ∷ []))) behind))
-    (with_this_row (numbers (decimal_field row.C) (decimal_field row.D) (decimal_field row.T)) (line_end behind CR-LF) (first_columns_lines rows all (omega arith)))
+    (with_this_row (numbers (decimal_field row.C) (decimal_field row.D) (decimal_field row.T)) (line_end behind CR_LF) (first_columns_lines rows all (omega arith)))
 
 -- so are those of the text
 pub first_columns_written : (rows : List Row) (all : List Figures) → length all ≡ length rows → Written rows (first_columns (certified_text rows all))
@@ -56,7 +56,7 @@ first_columns_written rows all as_many =
     let behind = first_columns (certified_lines rows all) in
     let line = first_columns_line (ascii "wcet") (ascii "deadline" ∷ (ascii "period" ∷ (ascii "core" ∷ (ascii "response" ∷ (ascii "allowance" ∷ []))))) (certified_lines rows all) names_ordinary in
     subst (Written rows) (sym (line ∙ line_of_lem (ascii "wcet" ∷ (ascii "deadline" ∷ (ascii "period" ∷ []))) behind))
-    (written (header plain plain plain) (line_end behind CR-LF) (first_columns_lines rows all as_many))
+    (written (header plain plain plain) (line_end behind CR_LF) (first_columns_lines rows all as_many))
 
 -- THE FIRST THREE COLUMNS ARE READ
 pub first_columns_read : (rows : List Row) (all : List Figures) → length all ≡ length rows → text_of (first_columns (certified_text rows all)) ≡ of_rows rows

@@ -24,8 +24,8 @@ first_alike lines others start = rw (some_field (first_part lines), some_field (
 
 -- and where there are any, so are all
 pub all_alike : (lines others : List (List ℕ)) → lines ≡ first_part lines ∷ other_parts lines → others ≡ first_part others ∷ other_parts others → Start Alike lines others → Pairwise AlikeLines lines others
-all_alike lines others some_IsFirst other-first start =
-    subst (λ (xs : List (List ℕ)). Pairwise AlikeLines xs others) (sym some_IsFirst)
+all_alike lines others some_is_first other-first start =
+    subst (λ (xs : List (List ℕ)). Pairwise AlikeLines xs others) (sym some_is_first)
     (subst (λ (ys : List (List ℕ)). Pairwise AlikeLines (first_part lines ∷ other_parts lines) ys) (sym other-first) (two (first_alike lines others start) start.further_lines))
 
 -- the same first field is alike

@@ -7,7 +7,7 @@ use lib.ListN.{length}
 use Rattle.theory.specs.Gather.{All}
 use Rattle.theory.proofs.Each.{all_map}
 use Rattle.texts.specs.Text.{LF, CR, comma, in_front, lines_of, fields_of}
-use Rattle.texts.specs.Forms.{LineEnd, LF-alone, CR-LF, Behind, line_end, end_of_text}
+use Rattle.texts.specs.Forms.{LineEnd, LF_alone, CR_LF, Behind, line_end, end_of_text}
 use Rattle.texts.proofs.Lines.{Ordinary, stays_in_line, stays_in_field}
 
 -- a byte that is a line's own: of no line end
@@ -38,8 +38,8 @@ last_line byte (next ∷ line) own = in_front_of_line byte (next ∷ line) (next
 -- a line and its end
 pub ended_line_in_front : {end : List ℕ} (line others : List ℕ) → All InLine line → LineEnd end → lines_of (line ++ (end ++ others)) ≡ line ∷ lines_of others
 unfolding lines_of
-ended_line_in_front line others own LF-alone = before_end line (LF ∷ others) (lines_of others) own refl
-ended_line_in_front line others own CR-LF = before_end line (CR ∷ (LF ∷ others)) (lines_of others) own refl
+ended_line_in_front line others own LF_alone = before_end line (LF ∷ others) (lines_of others) own refl
+ended_line_in_front line others own CR_LF = before_end line (CR ∷ (LF ∷ others)) (lines_of others) own refl
 
 -- A LINE IN FRONT OF OTHERS, whatever stands behind it as its end
 pub line_in_front : {others rest : List ℕ} (line : List ℕ) → All InLine line → 1 ≤ length line → Behind others rest → lines_of (line ++ rest) ≡ line ∷ lines_of others

@@ -38,8 +38,8 @@ pub data RowLine (row : Row) : List ℕ → Type 0 where
 
 -- a line end: LF or CR LF
 pub data LineEnd : List ℕ → Type 0 where
-  LF-alone : LineEnd (LF ∷ [])
-  CR-LF : LineEnd (CR ∷ LF ∷ [])
+  LF_alone : LineEnd (LF ∷ [])
+  CR_LF : LineEnd (CR ∷ LF ∷ [])
 
 -- what stands behind a line, in front of other lines: its end, which may be missing where there are none
 pub data Behind : List ℕ → List ℕ → Type 0 where

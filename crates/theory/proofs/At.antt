@@ -7,7 +7,7 @@ use native.Mathlib.Omega.{arith}
 use lib.ListN.{length, get_or}
 use Rattle.theory.specs.Gather.{All}
 use Rattle.theory.proofs.Tests.{order_cases}
-use Rattle.theory.proofs.Member.{all_at, mem_getD}
+use Rattle.theory.proofs.Member.{all_at, mem_get_or}
 use Rattle.theory.proofs.Order.{Ordered}
 
 -- a place of a list at which a number stands
@@ -23,7 +23,7 @@ stands_in (Memᴰ.tail m) = let s = stands_in m in record { place = suc s.place;
 
 -- what holds of each holds at each place
 pub each_at : (P : ℕ → Type 0) (xs : List ℕ) → All P xs → (j : ℕ) → j < length xs → P (get_or xs j 0)
-each_at P xs all j h = all_at P (mem_getD xs j h) all
+each_at P xs all j h = all_at P (mem_get_or xs j h) all
 
 -- of a list in order, what stands earlier is related to what stands later
 pub ordered_at : (R : ℕ → ℕ → Type 0) (xs : List ℕ) → Ordered R xs → (p q : ℕ) → p < q → q < length xs → R (get_or xs p 0) (get_or xs q 0)

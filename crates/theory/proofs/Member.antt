@@ -75,10 +75,10 @@ mem_up_from i zero x low high = absurd (omega arith)
 mem_up_from i (suc n) x low high = ⊎_elim Memᴰ.head (λ d. Memᴰ.tail (mem_up_from (suc i) n x (omega arith) (omega arith))) (equal_or_not x i)
 
 -- what stands at a place of a list is one of it
-pub mem_getD : (xs : List ℕ) (j : ℕ) → j < length xs → Memᴰ (get_or xs j 0) xs
-mem_getD [] j h = absurd (omega arith)
-mem_getD (x ∷ xs) zero h = Memᴰ.head refl
-mem_getD (x ∷ xs) (suc j) h = Memᴰ.tail (mem_getD xs j (omega arith))
+pub mem_get_or : (xs : List ℕ) (j : ℕ) → j < length xs → Memᴰ (get_or xs j 0) xs
+mem_get_or [] j h = absurd (omega arith)
+mem_get_or (x ∷ xs) zero h = Memᴰ.head refl
+mem_get_or (x ∷ xs) (suc j) h = Memᴰ.tail (mem_get_or xs j (omega arith))
 
 -- the n numbers from i on are n
 pub length_up_from : (i n : ℕ) → length (up_from i n) ≡ n

@@ -23,10 +23,10 @@ module _ (Before : ℤ → ℤ → Type 0) (reflexive : (z : ℤ) → Before z z
       → MovedTo Before value First before middle
       → MovedTo Before value Second middle after
       → MovedTo Before value Both before after
-  moved_in_two First Second Both from_First from_Second of_both before middle after r s = record {
+  moved_in_two First Second Both from_first from_Second of_both before middle after r s = record {
     onward = transitive before middle after r.onward s.onward;
     past_visited = λ p v. ⊎_elim (λ f. transitive (value p) middle after (r.past_visited p f) s.onward) (s.past_visited p) (of_both p v);
-    attained = ⊎_elim (λ same. ⊎_elim (λ e. inl (same ∙ e)) (λ q. inr (q.0, from_First q.0 q.1, q.2 ∙ sym same)) r.attained) (λ q. inr (q.0, from_Second q.0 q.1, q.2)) s.attained;
+    attained = ⊎_elim (λ same. ⊎_elim (λ e. inl (same ∙ e)) (λ q. inr (q.0, from_first q.0 q.1, q.2 ∙ sym same)) r.attained) (λ q. inr (q.0, from_Second q.0 q.1, q.2)) s.attained;
   }
 
   -- past the same numbers, said otherwise

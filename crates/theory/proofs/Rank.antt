@@ -14,7 +14,7 @@ use Rattle.theory.specs.Gather.{sum, sort, All}
 use Rattle.theory.specs.Rank.{places, above, rival, rivals, levels}
 use Rattle.theory.specs.Response.{demand, load, own}
 use Rattle.theory.proofs.Each.{all_map, all_kept, true_of}
-use Rattle.theory.proofs.Member.{all_at, mem_keep, mem_of_sort, mem_getD}
+use Rattle.theory.proofs.Member.{all_at, mem_keep, mem_of_sort, mem_get_or}
 use Rattle.theory.proofs.Places.{places_inside, mem_places}
 use Rattle.theory.proofs.Sum.{where_passes, where_passes_true, sum_append, sum_sort, sum_keep_le, sum_keep, sum_eq}
 use Rattle.theory.proofs.Order.{Ordered, up_from_ascending, ordered_keep, ordered_append_split, sort_ordered}
@@ -127,4 +127,4 @@ module _ (rows : List Row) where
       x = get_or (ranked k) j 0
 
       of_rivals : (x < length rows) × T (rival rows x k)
-      of_rivals = all_at (λ y. (y < length rows) × T (rival rows y k)) (mem_of_sort (above rows) (rivals rows k) (mem_getD (ranked k) j inside)) (all_rivals k)
+      of_rivals = all_at (λ y. (y < length rows) × T (rival rows y k)) (mem_of_sort (above rows) (rivals rows k) (mem_get_or (ranked k) j inside)) (all_rivals k)
