@@ -131,24 +131,29 @@ struct hibalunduk_answer hibalunduk_table(const uint8_t *table, size_t table_len
     return answered(TABLE);
 }
 
-struct hibalunduk_answer hibalunduk_set(const uint8_t *c, size_t c_len, const uint8_t *d, size_t d_len,
-                                        const uint8_t *t, size_t t_len, uint8_t *responses, size_t responses_len,
-                                        uint8_t *allowances, size_t allowances_len)
+/* Makes a call of a list service. */
+static struct hibalunduk_answer lists_answered(uint32_t which, const uint8_t *c, size_t c_len, const uint8_t *d, size_t d_len,
+                                               const uint8_t *t, size_t t_len, uint8_t *responses, size_t responses_len,
+                                               uint8_t *allowances, size_t allowances_len)
 {
     pass_lists(c, c_len, d, d_len, t, t_len);
     pass(3, responses, responses_len);
     pass(4, allowances, allowances_len);
-    return answered(SET);
+    return answered(which);
+}
+
+struct hibalunduk_answer hibalunduk_set(const uint8_t *c, size_t c_len, const uint8_t *d, size_t d_len,
+                                        const uint8_t *t, size_t t_len, uint8_t *responses, size_t responses_len,
+                                        uint8_t *allowances, size_t allowances_len)
+{
+    return lists_answered(SET, c, c_len, d, d_len, t, t_len, responses, responses_len, allowances, allowances_len);
 }
 
 struct hibalunduk_answer hibalunduk_point(const uint8_t *c, size_t c_len, const uint8_t *d, size_t d_len,
                                           const uint8_t *t, size_t t_len, uint8_t *responses, size_t responses_len,
                                           uint8_t *allowances, size_t allowances_len)
 {
-    pass_lists(c, c_len, d, d_len, t, t_len);
-    pass(3, responses, responses_len);
-    pass(4, allowances, allowances_len);
-    return answered(POINT);
+    return lists_answered(POINT, c, c_len, d, d_len, t, t_len, responses, responses_len, allowances, allowances_len);
 }
 
 size_t hibalunduk_listing(const uint8_t *table, size_t table_len, uint8_t *listing, size_t listing_len)

@@ -38,6 +38,10 @@ table_was_read {read = read} keeps-rules is_read none =
       many = held_rows_many read.c read.d read.t read.n accepted.1;
     }
 
+-- the same from a number that was given for the answer's
+pub read_by_number : {reading : Reading} {read : Read} {number : ℕ} → ((t : Table) → reading ≡ table t → TableWithin t) → IsRead reading read → number ≡ number_of read.answer → number ≡ 0 → TableRead reading read
+read_by_number keeps-rules is_read given none = table_was_read keeps-rules is_read (sym given ∙ none)
+
 -- the fronts of its arrays are lists of one length, as many as there are rows
 pub held_shaped : (read : Read) → Held read.n read.c read.d read.t → TableWithin (held_table read)
     → Shaped (take read.n read.c) (take read.n read.d) (take read.n read.t)
@@ -80,6 +84,10 @@ module _ {reading : Reading} {read : Read} (table_read : TableRead reading read)
         few = table_read.held.no_25th_row;
       }
   was_certified (none_takes i refuses stop) none = absurd (let six : number_of certificate.answer ≡ 6 = ap number_of refuses in omega arith)
+
+  -- the same from a number that was given for the answer's
+  pub certified_by_number : {number : ℕ} → IsHeld (held_table read) certificate → number ≡ number_of certificate.answer → number ≡ 0 → FiguresHeld read certificate
+  certified_by_number is_held given none = was_certified is_held (sym given ∙ none)
 
 -- where it is one, no core takes a row: of the answer holds what holds of every such refusal
 pub was_stopped : {t : Table} {certificate : Certificate} (Holds : Answer → Type 0) → ((i : ℕ) → Stopped allowance_fit t i → Holds (NoCoreTakes (suc i))) → IsHeld t certificate → (number_of certificate.answer ≡ 0 → ⊥)

@@ -4,3 +4,4 @@ pub mod RowBytes
 pub mod Bytes
 pub mod Returned
 pub mod Explained
+pub mod Lent

@@ -34,6 +34,10 @@ module _ (cs ds ts : List ℕ) where
         no_25th = omega (arith, rows.fours, rows.shaped);
       }
 
+  -- the same where a test tells that they are rows
+  pub lengths_told : {told : Bool} → (told ≡ true) ↔ RowBytes cs ds ts → told ≡ true → RowLengths
+  lengths_told tells told = lengths_of_rows (tells.0 told)
+
   pub rows_of_lengths : RowLengths → RowBytes cs ds ts
   rows_of_lengths lengths =
       let c = numbers_length cs in

@@ -1,17 +1,14 @@
-use mathlib.Core.Path.{◌≡◌, refl, sym, ap, subst}
+use mathlib.Core.Path.{refl, sym, subst}
 use Prim.Native.Nat.{ℕ, ◌+◌, ◌≤◌, ◌<◌}
 use native.Mathlib.Omega.{arith}
-use lib.ListN.{length, get_or, take, set, length-take}
-use Rattle.theory.specs.Row.{row_at}
-use Rattle.theory.specs.Response.{Outcome, load, responds, misses, FirstMiss}
-use Rattle.theory.specs.Climb.{Climbed}
+use lib.ListN.{length, get_or, set, length-take}
+use Rattle.theory.specs.Response.{responds, misses, FirstMiss}
 use Rattle.theory.specs.Lists.{rows_of}
-use Rattle.demands.specs.Levels.{load_of}
-use Rattle.climbs.specs.Climb.{outcome_of}
 use Rattle.climbs.proofs.Load.{limits_at}
 use Rattle.climbs.proofs.OrderByRank.{ranked_long, places_of_rows}
-use Rattle.climbs.proofs.InLists.{deadline_of, ranked, order_ranked, order_in_lists}
-use Rattle.climbs.proofs.StandByRank.{gathered_stand, following_begins, execution_within, load_here, small_before, start_following, following_more}
+use Rattle.climbs.proofs.InLists.{order_in_lists}
+use Rattle.climbs.proofs.StandByRank.{gathered_stand, following_begins, execution_within, small_before, start_following, following_more}
+use Rattle.responses.proofs.Turn.{row_ranked, climb_at_rank, climb_of_row}
 use Rattle.responses.proofs.Answering.{Answering, answering_begins, answering_more, answering_stops, answering_ends}
 use Rattle.responses.proofs.responses_of.Goals as goal
 
@@ -114,36 +111,26 @@ bounds-response-k c =
 
 pub returns-in-Misses : goal.returns-in-Misses
 returns-in-Misses c =
-    let row-ranked : let j = c.loop-j.j in get_or c.args.order.now j 0 ≡ ranked c.args.c.now c.args.d.now c.args.t.now c.requires.shaped.0 j = order_ranked c.args.c.now c.args.d.now c.args.t.now c.requires.shaped.0 c.args.order.now c.requires.order_value c.loop-j.j (omega arith) in
     let stand = gathered_stand c.args.order.now c.requires.shaped c.requires.order_value c.gather-cs.ensures.result_value c.gather-cs.ensures.result_len c.gather-ts.ensures.result_value c.gather-ts.ensures.result_len in
-    let climb-of-turn : (outcome : Outcome) → outcome_of c.climb_from.result ≡ outcome → let j = c.loop-j.j in let executions = c.gather-cs.result in let periods = c.gather-ts.result in Climbed (load_of (get_or executions j 0) (take j executions) (take j periods)) (get_or c.args.d.now (ranked c.args.c.now c.args.d.now c.args.t.now c.requires.shaped.0 j) 0) outcome = λ outcome said. rw (row-ranked, said) at c.climb_from.ensures in
-    let climb-of-row : (outcome : Outcome) → outcome_of c.climb_from.result ≡ outcome → let rows = rows_of c.args.c.now c.args.d.now c.args.t.now in let k = ranked c.args.c.now c.args.d.now c.args.t.now c.requires.shaped.0 c.loop-j.j in Climbed (load rows k) (row_at rows k).D outcome = λ outcome said. rw (deadline_of c.args.c.now c.args.d.now c.args.t.now c.requires.shaped.0 (ranked c.args.c.now c.args.d.now c.args.t.now c.requires.shaped.0 c.loop-j.j), ← load_here stand c.loop-j.j (omega arith))
-    (climb-of-turn outcome said) in
     let turn = c.loop-j in
-    let so_far = (turn.invariant c.requires.shaped.0).0 in record {
-      verdict = subst (FirstMiss (rows_of c.args.c.now c.args.d.now c.args.t.now)) (sym row-ranked)
+    let so_far = (turn.invariant c.requires.shaped.0).0 in
+    record {
+      verdict = subst (FirstMiss (rows_of c.args.c.now c.args.d.now c.args.t.now)) (sym (row_ranked stand c.args.order.now c.requires.order_value (omega arith)))
           (answering_stops c.args.c.now c.args.d.now c.args.t.now c.requires.shaped.0 turn.response turn.j so_far (omega arith)
-          (climb-of-row misses (ap outcome_of c.in-Misses.is)));
+          (climb_of_row stand c.args.order.now c.requires.order_value (omega arith) misses c.in-Misses.ensures));
       response_len = so_far.long;
     }
 
 pub loop-j-preserved : goal.loop-j-preserved
 loop-j-preserved c =
     let stand = gathered_stand c.args.order.now c.requires.shaped c.requires.order_value c.gather-cs.ensures.result_value c.gather-cs.ensures.result_len c.gather-ts.ensures.result_value c.gather-ts.ensures.result_len in
-    let row-ranked : let j = c.loop-j.j in get_or c.args.order.now j 0 ≡ ranked c.args.c.now c.args.d.now c.args.t.now c.requires.shaped.0 j = order_ranked c.args.c.now c.args.d.now c.args.t.now c.requires.shaped.0 c.args.order.now c.requires.order_value c.loop-j.j (omega arith) in
-    let climb-of-turn : (outcome : Outcome) → outcome_of c.climb_from.result ≡ outcome → let j = c.loop-j.j in let executions = c.gather-cs.result in let periods = c.gather-ts.result in Climbed (load_of (get_or executions j 0) (take j executions) (take j periods)) (get_or c.args.d.now (ranked c.args.c.now c.args.d.now c.args.t.now c.requires.shaped.0 j) 0) outcome = λ outcome said. rw (row-ranked, said) at c.climb_from.ensures in
-    let climb-of-row : (outcome : Outcome) → outcome_of c.climb_from.result ≡ outcome → let rows = rows_of c.args.c.now c.args.d.now c.args.t.now in let k = ranked c.args.c.now c.args.d.now c.args.t.now c.requires.shaped.0 c.loop-j.j in Climbed (load rows k) (row_at rows k).D outcome = λ outcome said. rw (deadline_of c.args.c.now c.args.d.now c.args.t.now c.requires.shaped.0 (ranked c.args.c.now c.args.d.now c.args.t.now c.requires.shaped.0 c.loop-j.j), ← load_here stand c.loop-j.j (omega arith))
-    (climb-of-turn outcome said) in
     λ shaped.
-    let cs = c.args.c.now in
-    let ds = c.args.d.now in
-    let ts = c.args.t.now in
     let turn = c.loop-j in
     let r = c.in-Responds.r in
-    let said = ap outcome_of c.in-Responds.is in
-    let climbed = climb-of-turn (responds r) said in (
-      subst (λ (k : ℕ). Answering cs ds ts shaped (set turn.response k r) (turn.j + 1)) (sym row-ranked)
-          (answering_more cs ds ts shaped turn.response turn.j (turn.invariant shaped).0 (omega arith) r (climb-of-row (responds r) said)),
+    let climbed = climb_at_rank stand c.args.order.now c.requires.order_value (omega arith) (responds r) c.in-Responds.ensures in (
+      subst (λ (k : ℕ). Answering c.args.c.now c.args.d.now c.args.t.now shaped (set turn.response k r) (turn.j + 1)) (sym (row_ranked stand c.args.order.now c.requires.order_value (omega arith)))
+          (answering_more c.args.c.now c.args.d.now c.args.t.now shaped turn.response turn.j (turn.invariant shaped).0 (omega arith) r
+          (climb_of_row stand c.args.order.now c.requires.order_value (omega arith) (responds r) c.in-Responds.ensures)),
       following_more stand turn.j (omega arith) r climbed.0 climbed.1,
     )
 
