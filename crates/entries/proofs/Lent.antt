@@ -15,10 +15,11 @@ use Rattle.entries.proofs.Cut.{CutAnswered, accepted_alike}
 abbrev pub array : List ℕ
 array = replicate 24 0
 
--- of an accepted call: in both arrays, and in the bytes of both answer lists, there is a place for each row
+-- of an accepted call: both arrays are back whole, and in them and in the bytes of both answer lists there is a place for each row
 pub record PlaceForEach (cs responses allowances Rs As : List ℕ) (r a : ℕ) : Type 0 where
-  pub in_responses : length cs ≤ length (Rs ++ drop r array)
-  pub in_allowances : length cs ≤ length (As ++ drop a array)
+  pub no_25th : length cs ≤ 24
+  pub responses_whole : length (Rs ++ drop r array) ≡ 24
+  pub allowances_whole : length (As ++ drop a array) ≡ 24
   pub in_response_bytes : 4 * length cs ≤ length responses
   pub in_allowance_bytes : 4 * length cs ≤ length allowances
 
@@ -53,10 +54,10 @@ module _
   pub place_for_each : returns.number ≡ 0 → PlaceForEach cs responses allowances Rs As r a
   place_for_each none =
       let alike = accepted_alike lent_is_cut none in
-      let few : length cs ≤ 24 = alike.no_25th in
       record {
-        in_responses = omega (arith, few, length_front array Rs r responses-kept);
-        in_allowances = omega (arith, few, length_front array As a allowances-kept);
+        no_25th = alike.no_25th;
+        responses_whole = length_front array Rs r responses-kept;
+        allowances_whole = length_front array As a allowances-kept;
         in_response_bytes = omega (arith, alike, numbers_length responses);
         in_allowance_bytes = omega (arith, alike, numbers_length allowances);
       }

@@ -22,12 +22,12 @@ returns-then-number_of-ne0 c =
 pub slice_bounds-response-end-2 : goal.slice_bounds-response-end-2
 slice_bounds-response-end-2 c =
     let places = place_for_each c.args.responses.now c.args.allowances.now c.room-r.ensures c.room-a.ensures c.answer_lists-answer.auto.responses c.answer_lists-answer.auto.allowances c.answer_lists-answer.ensures (sym c.number_of.ensures ∙ c.if-number_of-ne0.false) in
-    places.in_responses
+    omega (arith, places)
 
 pub slice_bounds-put_numbers-end : goal.slice_bounds-put_numbers-end
 slice_bounds-put_numbers-end c =
     let places = place_for_each c.args.responses.now c.args.allowances.now c.room-r.ensures c.room-a.ensures c.answer_lists-answer.auto.responses c.answer_lists-answer.auto.allowances c.answer_lists-answer.ensures (sym c.number_of.ensures ∙ c.if-number_of-ne0.false) in
-    sym (length-take-le _ _ places.in_responses)
+    sym (length-take-le _ _ (omega (arith, places)))
 
 pub put_numbers-requires : goal.put_numbers-requires
 put_numbers-requires c =
@@ -37,12 +37,12 @@ put_numbers-requires c =
 pub slice_bounds-allowance-end-2 : goal.slice_bounds-allowance-end-2
 slice_bounds-allowance-end-2 c =
     let places = place_for_each c.args.responses.now c.args.allowances.now c.room-r.ensures c.room-a.ensures c.answer_lists-answer.auto.responses c.answer_lists-answer.auto.allowances c.answer_lists-answer.ensures (sym c.number_of.ensures ∙ c.if-number_of-ne0.false) in
-    places.in_allowances
+    omega (arith, places)
 
 pub slice_bounds-put_numbers-end-2 : goal.slice_bounds-put_numbers-end-2
 slice_bounds-put_numbers-end-2 c =
     let places = place_for_each c.args.responses.now c.args.allowances.now c.room-r.ensures c.room-a.ensures c.answer_lists-answer.auto.responses c.answer_lists-answer.auto.allowances c.answer_lists-answer.ensures (sym c.number_of.ensures ∙ c.if-number_of-ne0.false) in
-    sym (length-take-le _ _ places.in_allowances)
+    sym (length-take-le _ _ (omega (arith, places)))
 
 pub put_numbers-requires-2 : goal.put_numbers-requires-2
 put_numbers-requires-2 c =
