@@ -2,11 +2,11 @@
 #![tactic(auto)]
 
 ghost use Rattle.std.specs.Prelude.{◌≡◌};
-ghost use Rattle.answers.specs.Answer.{number_of, row_of};
+ghost use Rattle.answers.specs.Answer.{number_of, row_of, refused_with};
 
-#[derive(Clone, Copy)]
-pub enum Answer {
-    Accepted,
+// Why a call is refused; the number beside a name is the row or the line that it names, from 1.
+#[derive(Clone, Copy, Debug, PartialEq, Eq)]
+pub enum Refusal {
     RecordsBroken,
     CoresOutOfRange,
     RowsOutOfRange,
@@ -19,22 +19,54 @@ pub enum Answer {
     RowNotInSet,
 }
 
+// What a call comes to that writes what it gives.
+pub type Answer = Result<(), Refusal>;
+
+impl Refusal {
+    // The number that the documents give it.
+    pub fn number(self) -> u32
+        ensures { result ≡ (refused_with self).number }
+    {
+        match self {
+            Refusal::RecordsBroken => 1,
+            Refusal::CoresOutOfRange => 2,
+            Refusal::RowsOutOfRange => 3,
+            Refusal::RowBreaksLimits(_) => 4,
+            Refusal::CountDiffers => 5,
+            Refusal::NoCoreTakes(_) => 6,
+            Refusal::OutputTooShort => 7,
+            Refusal::RowMisses(_) => 8,
+            Refusal::LineBroken(_) => 9,
+            Refusal::RowNotInSet => 10,
+        }
+    }
+
+    // The row or the line that it names; 0 where it names none.
+    pub fn row(self) -> u32
+        ensures { result ≡ (refused_with self).row }
+    {
+        match self {
+            Refusal::RowBreaksLimits(row) => row,
+            Refusal::NoCoreTakes(row) => row,
+            Refusal::RowMisses(row) => row,
+            Refusal::LineBroken(line) => line,
+            Refusal::RecordsBroken
+            | Refusal::CoresOutOfRange
+            | Refusal::RowsOutOfRange
+            | Refusal::CountDiffers
+            | Refusal::OutputTooShort
+            | Refusal::RowNotInSet => 0,
+        }
+    }
+}
+
 // The number of an answer: 0 for an accepted call, else the refusal's.
 pub fn number_of(answer: Answer) -> u32
     ensures { result ≡ number_of answer }
 {
     match answer {
-        Answer::Accepted => 0,
-        Answer::RecordsBroken => 1,
-        Answer::CoresOutOfRange => 2,
-        Answer::RowsOutOfRange => 3,
-        Answer::RowBreaksLimits(_) => 4,
-        Answer::CountDiffers => 5,
-        Answer::NoCoreTakes(_) => 6,
-        Answer::OutputTooShort => 7,
-        Answer::RowMisses(_) => 8,
-        Answer::LineBroken(_) => 9,
-        Answer::RowNotInSet => 10,
+        Ok(()) => 0,
+        Err(refusal) => refusal.number(),
     }
 }
 
@@ -43,16 +75,7 @@ pub fn row_of(answer: Answer) -> u32
     ensures { result ≡ row_of answer }
 {
     match answer {
-        Answer::RowBreaksLimits(row) => row,
-        Answer::NoCoreTakes(row) => row,
-        Answer::RowMisses(row) => row,
-        Answer::LineBroken(line) => line,
-        Answer::Accepted => 0,
-        Answer::RecordsBroken => 0,
-        Answer::CoresOutOfRange => 0,
-        Answer::RowsOutOfRange => 0,
-        Answer::CountDiffers => 0,
-        Answer::OutputTooShort => 0,
-        Answer::RowNotInSet => 0,
+        Ok(()) => 0,
+        Err(refusal) => refusal.row(),
     }
 }
