@@ -1,4 +1,5 @@
-// Bytes, numbers of four bytes and lists of them, read from a byte string and written into one: document 01, "Records", and lists passed as bytes.
+// Bytes, numbers of four bytes and lists of them, read from a byte string and written into one, and the kinds of records: document 01, "Records", and lists
+// passed as bytes.
 #![tactic(auto)]
 
 ghost use Rattle.std.specs.Prelude.{◌≡◌, ◌+◌, ◌*◌, ◌/◌, ◌≤◌, ◌<◌, ◌++◌, length, take, drop};
@@ -6,33 +7,26 @@ ghost use Rattle.theory.specs.Lists.{filled};
 ghost use Rattle.records.specs.Number.{number_at, four_bytes};
 ghost use Rattle.records.specs.ListBytes.{numbers_in, bytes_of};
 
-fn widened(byte: u8) -> u32
-    ensures { (result ≡ byte) × (result < 256) }
-{
-    byte as u32
-}
+mod kind;
+
+pub use kind::{Kind, UnknownKind};
 
 // The number in the four bytes from a place on.
+#[tactic(auto, using(crate::proofs::FourBytes::number_read))]
 pub fn number_at(bytes: &[u8], at: usize) -> u32
     requires { at + 4 ≤ length bytes.now }
     ensures { result ≡ number_at at bytes.now }
 {
-    let first = widened(bytes[at]);
-    let second = widened(bytes[at + 1]);
-    let third = widened(bytes[at + 2]);
-    let fourth = widened(bytes[at + 3]);
-    ((first * 256 + second) * 256 + third) * 256 + fourth
+    u32::from_be_bytes([bytes[at], bytes[at + 1], bytes[at + 2], bytes[at + 3]])
 }
 
 // Writes a number into the four bytes from a place on.
+#[tactic(auto, unfolding(records::specs::Number::four_bytes))]
 pub fn put_number(bytes: &mut [u8], at: usize, n: u32)
     requires { at + 4 ≤ length bytes.old }
     ensures { bytes.new ≡ take at bytes.old ++ four_bytes n ++ drop (at + 4) bytes.old }
 {
-    bytes[at] = (n / 16777216 % 256) as u8;
-    bytes[at + 1] = (n / 65536 % 256) as u8;
-    bytes[at + 2] = (n / 256 % 256) as u8;
-    bytes[at + 3] = (n % 256) as u8;
+    put_bytes(bytes, at, &n.to_be_bytes());
 }
 
 // Writes bytes into a byte string from a place on.
@@ -40,11 +34,7 @@ pub fn put_bytes(bytes: &mut [u8], at: usize, part: &[u8])
     requires { at + length part.now ≤ length bytes.old }
     ensures { bytes.new ≡ take at bytes.old ++ part.now ++ drop (at + length part.now) bytes.old }
 {
-    let mut j = 0;
-    while j < part.len() {
-        bytes[at + j] = part[j];
-        j += 1;
-    }
+    bytes[at..at + part.len()].copy_from_slice(part);
 }
 
 // The numbers that bytes are, at the front of an array.
@@ -54,10 +44,8 @@ pub fn read_numbers(bytes: &[u8]) -> [u32; 24]
     ensures result_len { length result ≡ 24 }
 {
     let mut numbers = [0u32; 24];
-    let mut j = 0;
-    while j < bytes.len() / 4 {
+    for j in 0..bytes.len() / 4 {
         numbers[j] = number_at(bytes, 4 * j);
-        j += 1;
     }
     numbers
 }
@@ -67,9 +55,7 @@ pub fn put_numbers(bytes: &mut [u8], numbers: &[u32])
     requires { 4 * length numbers.now ≤ length bytes.old }
     ensures { bytes.new ≡ filled (bytes_of numbers.now) bytes.old }
 {
-    let mut j = 0;
-    while j < numbers.len() {
-        put_number(bytes, 4 * j, numbers[j]);
-        j += 1;
+    for (j, number) in numbers.iter().enumerate() {
+        put_number(bytes, 4 * j, *number);
     }
 }

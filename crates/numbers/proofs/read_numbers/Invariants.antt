@@ -1,12 +1,8 @@
 -- `read_numbers` meets its contract. The loop's invariant: the first j numbers of the array are the first j that the bytes are.
 use mathlib.Core.Path.{◌≡◌}
-use Prim.Native.Nat.{◌-◌, ◌/◌, ◌≤◌}
 use lib.ListN.{length, take}
 use Rattle.records.specs.ListBytes.{numbers_in}
 use Rattle.numbers.proofs.read_numbers.Given as goal
 
 abbrev pub invariant-loop-j : goal.invariant-loop-j
-invariant-loop-j l = (l.j ≤ length l.bytes / 4) × (length l.numbers ≡ 24) × (take l.j l.numbers ≡ take l.j (numbers_in l.bytes))
-
-abbrev pub decreases-loop-j : goal.decreases-loop-j
-decreases-loop-j l = length l.bytes / 4 - l.j
+invariant-loop-j l = (length l.numbers ≡ 24) × (take l.j l.numbers ≡ take l.j (numbers_in l.bytes))

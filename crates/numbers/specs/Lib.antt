@@ -1,0 +1,2 @@
+-- The kinds of records by their bytes.
+pub mod Kind
