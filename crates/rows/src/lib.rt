@@ -2,7 +2,7 @@
 // one for each of their parts, as C lends them.
 #![tactic(auto)]
 
-ghost use Rattle.std.specs.Prelude.{◌≡◌, length};
+ghost use Rattle.std.specs.Prelude.{◌≡◌, ◌<◌, length, get_or};
 ghost use Rattle.theory.specs.Row.{AllWithin};
 ghost use Rattle.theory.specs.Lists.{Shaped, rows_of};
 
@@ -40,4 +40,32 @@ pub struct FigureLists<'a> {
     pub allowance: &'a [u32],
     ghost as_many_responses: { length response.now ≡ length core.now },
     ghost as_many_allowances: { length allowance.now ≡ length core.now },
+}
+
+impl Rows<'_> {
+    // The row at a place.
+    pub fn row_at(&self, i: usize) -> Row
+        requires { i < length self.now.c.now }
+        ensures { result ≡ record { c = get_or self.now.c.now i 0; d = get_or self.now.d.now i 0; t = get_or self.now.t.now i 0 } }
+    {
+        Row {
+            c: self.c[i],
+            d: self.d[i],
+            t: self.t[i],
+        }
+    }
+}
+
+impl FigureLists<'_> {
+    // The figures of the row at a place.
+    pub fn figures_at(&self, i: usize) -> Figures
+        requires { i < length self.now.core.now }
+        ensures { result ≡ record { core = get_or self.now.core.now i 0; response = get_or self.now.response.now i 0; allowance = get_or self.now.allowance.now i 0 } }
+    {
+        Figures {
+            core: self.core[i],
+            response: self.response[i],
+            allowance: self.allowance[i],
+        }
+    }
 }
