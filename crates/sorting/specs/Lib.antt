@@ -1,0 +1,1 @@
+-- Places put in order: the definitions are those of `theory`.
