@@ -1,14 +1,17 @@
 -- The test of a row's limits on the numbers of three lists.
 use mathlib.Core.Path.{◌≡◌, sym, subst}
-use Prim.Native.Nat.{ℕ, ◌≤◌, ◌<◌}
+use Prim.Native.Nat.{ℕ, suc, ◌≤◌, ◌<◌}
 use mathlib.Core.Bool.{true, false}
 use mathlib.Core.List.{List}
 use native.Mathlib.Omega.{arith}
 use lib.ListN.{length, get_or}
+use Rattle.std.proofs.Common.{Err}
+use Rattle.answers.specs.declared.Refusal.TheVariants.{RowBreaksLimits}
 use Rattle.theory.specs.Row.{Row, row_at, within_limits, WithinLimits, AllWithin, FirstBroken}
 use Rattle.theory.specs.Lists.{rows_of, Shaped}
 use Rattle.theory.proofs.Limits.{passing_keeps_limits, keeping_limits_passes}
 use Rattle.theory.proofs.RowsOf.{rows_of_length, row_of_lists}
+use Rattle.refusals.specs.Checked.{Checked, row_breaks_limits}
 
 module _ (cs ds ts : List ℕ) (shaped : Shaped cs ds ts) (k : ℕ) where
   -- the row that stands at a place
@@ -42,3 +45,12 @@ module _ (cs ds ts : List ℕ) (shaped : Shaped cs ds ts) where
   -- rows that keep the limits up to the lists' length are all rows
   pub all_within : (k : ℕ) → length cs ≤ k → ((h : ℕ) → h < k → WithinLimits (row_at (rows_of cs ds ts) h)) → AllWithin (rows_of cs ds ts)
   all_within k past each h inside = each h (omega (arith, as_many_rows))
+
+  -- the first that breaks them is one of the rows that C has
+  pub broken_in_set : {k : ℕ} → FirstBroken (rows_of cs ds ts) k → k < length cs
+  broken_in_set first = omega (arith, first.in_table, as_many_rows)
+
+  -- it is refused by its number
+  pub by_number : {responses allowances number k : ℕ} → FirstBroken (rows_of cs ds ts) k → number ≡ suc k
+      → Checked cs ds ts responses allowances (Err (RowBreaksLimits number))
+  by_number first its_number = rw its_number (row_breaks_limits _ shaped first)

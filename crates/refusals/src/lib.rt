@@ -1,72 +1,59 @@
 // The checks of lists before any climb: refusals 3, 4 and 7 of document 01, in this order.
 #![tactic(auto)]
 
-ghost use Rattle.std.specs.Prelude.{◌≡◌, ℕ, ◌≤◌, ◌<◌, length};
-ghost use Rattle.theory.specs.Row.{within_limits, WithinLimits, row_at};
+ghost use Rattle.std.specs.Prelude.{◌≡◌, MatchOption};
+ghost use Rattle.theory.specs.Row.{within_limits, AllWithin, FirstBroken};
 ghost use Rattle.theory.specs.Lists.{Shaped, rows_of};
+ghost use Rattle.rows.specs.Values.{row_of};
 ghost use Rattle.refusals.specs.Checked.{Checked};
 
-use answers::Answer;
+use answers::Refusal;
+use rows::{Row, Rows};
 
 // Whether a row keeps the limits.
-pub fn within_limits(c: u32, d: u32, t: u32) -> bool
-    ensures { result ≡ within_limits (record { C = c; D = d; T = t }) }
+pub fn within_limits(row: Row) -> bool
+    ensures { result ≡ within_limits (row_of row) }
 {
-    if c < 1 {
-        return false;
-    }
-    if d < c {
-        return false;
-    }
-    if t < d {
-        return false;
-    }
-    t <= 1_000_000
+    1 <= row.c && row.c <= row.d && row.d <= row.t && row.t <= 1_000_000
 }
 
-// The place of the first row that breaks the limits, or how many rows there are.
-pub fn first_broken(c: &[u32], d: &[u32], t: &[u32]) -> usize
+// The place of the first row that breaks the limits.
+pub fn first_broken(c: &[u32], d: &[u32], t: &[u32]) -> Option<usize>
     requires { Shaped c.now d.now t.now }
-    ensures within { result ≤ length c.now }
-    ensures before { (h : ℕ) → h < result → WithinLimits (row_at (rows_of c.now d.now t.now) h) }
-    ensures broken { result < length c.now → WithinLimits (row_at (rows_of c.now d.now t.now) result) → ⊥ }
+    ensures { MatchOption result (AllWithin (rows_of c.now d.now t.now)) (FirstBroken (rows_of c.now d.now t.now)) }
 {
-    let mut k = 0;
-    while k < c.len() {
-        if !within_limits(c[k], d[k], t[k]) {
-            return k;
+    for k in 0..c.len() {
+        let row = Row {
+            c: c[k],
+            d: d[k],
+            t: t[k],
+        };
+        if !within_limits(row) {
+            return Some(k);
         }
-        k += 1;
     }
-    k
+    None
 }
 
-// The refusal of lists before any climb, or Accepted.
-pub fn check_lists(c: &[u32], d: &[u32], t: &[u32], responses: usize, allowances: usize) -> Answer
+// The lists as rows within the limits, with room for the answers of each; or their refusal before any climb.
+pub fn check_lists<'a>(
+    c: &'a [u32],
+    d: &'a [u32],
+    t: &'a [u32],
+    responses: usize,
+    allowances: usize,
+) -> Result<Rows<'a>, Refusal>
     ensures { Checked c.now d.now t.now responses allowances result }
 {
     let n = c.len();
-    if n < 1 {
-        return Answer::RowsOutOfRange;
+    if n < 1 || 24 < n || d.len() != n || t.len() != n {
+        return Err(Refusal::RowsOutOfRange);
     }
-    if 24 < n {
-        return Answer::RowsOutOfRange;
+    if let Some(broken) = first_broken(c, d, t) {
+        return Err(Refusal::RowBreaksLimits(broken as u32 + 1));
     }
-    if d.len() != n {
-        return Answer::RowsOutOfRange;
+    if responses < n || allowances < n {
+        return Err(Refusal::OutputTooShort);
     }
-    if t.len() != n {
-        return Answer::RowsOutOfRange;
-    }
-    let broken = first_broken(c, d, t);
-    if broken < n {
-        return Answer::RowBreaksLimits(broken as u32 + 1);
-    }
-    if responses < n {
-        return Answer::OutputTooShort;
-    }
-    if allowances < n {
-        return Answer::OutputTooShort;
-    }
-    Answer::Accepted
+    Ok(Rows { c, d, t })
 }
