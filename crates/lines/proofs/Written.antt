@@ -1,12 +1,14 @@
 -- Bytes written behind those that stand at the front of a text, and what such writes come to, one behind another.
 use mathlib.Core.Path.{◌≡◌, ap, ◌∙◌}
-use Prim.Native.Nat.{ℕ, ◌+◌, ◌≤◌, ◌<◌}
+use Prim.Native.Nat.{ℕ, ◌+◌, ◌^◌, ◌≤◌, ◌<◌}
 use native.Mathlib.Omega.{arith}
 use mathlib.Core.List.{List, [], ◌∷◌, ◌++◌, append_assoc, append-nil}
 use lib.ListN.{length, get_or, take, drop, length-append}
 use lib.Seq.{take_at, length-take-le}
+use Rattle.std.specs.Fmt.{decimal as of_library}
 use Rattle.placement.specs.Figures.{Figures}
 use Rattle.listing.specs.Listing.{ascii, header_line, decimal, row_line, row_lines, system_allowance, listing, refusal}
+use Rattle.listing.proofs.Decimal.{decimal_same}
 use Rattle.listing.proofs.RowLines.{lines_from, lines_from_row, no_lines_left}
 
 -- a part put in behind the first `at` bytes
@@ -15,6 +17,10 @@ pub part_written : (text part : List ℕ) (at : ℕ) {after : List ℕ} → at +
 part_written text part at room put =
     ap (take (at + length part)) put
     ∙ take_at (take at text ++ part) (drop (at + length part) text) (at + length part) (omega (arith, length-append (take at text) part, length-take-le at text (omega arith)))
+
+-- digits as the library has them, and one byte behind them
+pub number_written : {one two : List ℕ} (front : List ℕ) (n behind : ℕ) → n < 2 ^ 32 → one ≡ front ++ of_library n → two ≡ one ++ (behind ∷ []) → two ≡ front ++ (decimal n ++ (behind ∷ []))
+number_written front n behind small digits last = rw (last, digits, decimal_same n (omega arith), append_assoc)
 
 module _ {one two three four : List ℕ} where
   -- the line of a row

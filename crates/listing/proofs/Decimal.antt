@@ -1,6 +1,6 @@
 -- Decimal numbers as the listing prints them: digits with no leading zero, from which the number reads back.
-use mathlib.Core.Path.{◌≡◌, refl, ap, ◌∙◌}
-use Prim.Native.Nat.{ℕ, zero, suc, ◌+◌, ◌-◌, ◌*◌, ◌/◌, ◌%◌, ◌≤◌, ◌<◌}
+use mathlib.Core.Path.{◌≡◌, refl, sym, ap, ◌∙◌}
+use Prim.Native.Nat.{ℕ, zero, suc, ◌+◌, ◌-◌, ◌*◌, ◌/◌, ◌%◌, ◌^◌, ◌≤◌, ◌<◌}
 use native.Mathlib.Nat.{le_of_suc-le-suc}
 use mathlib.Core.Bool.{Bool, true, false}
 use mathlib.Core.List.{List, [], ◌∷◌, ◌++◌}
@@ -8,6 +8,8 @@ use native.Mathlib.Omega.{arith}
 use lib.Dec.{ltb}
 use lib.ListN.{length, get_or}
 use borrow.Author.Tests.{ltb-true, ltb-false, lt-ltb, le-ltb}
+use Rattle.std.specs.Fmt.{decimal as of_library}
+use Rattle.std.proofs.lemmas.Fmt.{decimal_by_steps}
 use Rattle.listing.specs.Listing.{digits_before, decimal}
 
 -- the number that decimal digits are, after those that made `so_far`
@@ -132,3 +134,9 @@ unfolding decimal digits_before
 decimal_more_digits n large =
     rw (le-ltb n 10 large, digits_before)
     (digits_in_front n (n / 10) [] ((48 + n % 10) ∷ []) ∙ ap (λ digits. digits ++ ((48 + n % 10) ∷ [])) (steps_enough n (suc (n / 10)) (n / 10) [] (omega arith) (omega arith)))
+
+-- the library's decimal digits are these
+pub decimal_same : (n : ℕ) → n < 2 ^ 64 → of_library n ≡ decimal n
+decimal_same = decimal_by_steps (λ n digits. digits ≡ decimal n)
+    (λ n small. sym (decimal_one_digit n small))
+    (λ n tens large same. ap (λ digits. digits ++ ((48 + n % 10) ∷ [])) same ∙ sym (decimal_more_digits n large))

@@ -1,14 +1,15 @@
 -- The system's allowance that the listing prints is the smallest of all rows', and the only one that is.
-use mathlib.Core.Path.{◌≡◌, refl, ap, ◌∙◌}
+use mathlib.Core.Path.{◌≡◌, refl}
 use Prim.Native.Nat.{ℕ, zero, suc, ◌≤◌, ◌<◌, min, suc-le-suc}
 use native.Mathlib.Nat.{le_of_suc-le-suc}
 use mathlib.Core.Bool.{Bool, true, false}
 use mathlib.Core.List.{List, [], ◌∷◌}
 use native.Mathlib.Omega.{arith}
-use lib.Dec.{leb, ltb}
-use lib.ListN.{length, get_or, drop}
-use borrow.Author.Tests.{leb-true, leb-false, ltb-true, ltb-false}
-use Rattle.theory.specs.Gather.{best}
+use lib.Dec.{leb}
+use lib.ListN.{length}
+use borrow.Author.Tests.{leb-true, leb-false}
+use Rattle.std.specs.Option.{unwrap_or}
+use Rattle.std.specs.List.{fold, reduce}
 use Rattle.placement.specs.Figures.{Figures, figures_from, figures_at, IsSystemAllowance}
 use Rattle.listing.specs.Listing.{smallest_allowance, system_allowance}
 
@@ -74,28 +75,26 @@ system_allowance_smallest (figures ∷ others) some = smallest_allowance_lem fig
 pub system_allowance_unique : (all : List Figures) (a b : ℕ) → IsSystemAllowance all a → IsSystemAllowance all b → a ≡ b
 system_allowance_unique all a b is-a is_b = omega (arith, is-a.smallest is_b.row is_b.in_table, is_b.smallest is-a.row is-a.in_table)
 
--- with an allowance at hand, the smallest of the figures that three lists are is the best of it and the third list's numbers, where less is better
+-- with an allowance at hand, the smallest of the figures that three lists are is the smallest of it and the third list's numbers
 smallest_of_lists : (cores responses allowances : List ℕ) → length responses ≡ length cores → length allowances ≡ length cores → (a : ℕ)
-    → smallest_allowance a (figures_from cores responses allowances) ≡ best ltb a allowances
-unfolding smallest_allowance figures_from best
+    → smallest_allowance a (figures_from cores responses allowances) ≡ fold min a allowances
+unfolding smallest_allowance figures_from
 smallest_of_lists [] [] [] r l a = refl
 smallest_of_lists [] responses (allowance ∷ allowances) r l a = absurd (omega arith)
 smallest_of_lists [] (response ∷ responses) [] r l a = absurd (omega arith)
 smallest_of_lists (core ∷ cores) [] allowances r l a = absurd (omega arith)
 smallest_of_lists (core ∷ cores) (response ∷ responses) [] r l a = absurd (omega arith)
 smallest_of_lists (core ∷ cores) (response ∷ responses) (allowance ∷ allowances) r l a =
-    smallest_of_lists cores responses allowances (omega arith) (omega arith) (min a allowance) ∙ go (ltb allowance a) refl
-  where
-    go : (smaller : Bool) → ltb allowance a ≡ smaller → best ltb (min a allowance) allowances ≡ elim smaller [ true ↦ best ltb allowance allowances | false ↦ best ltb a allowances ]
-    go true smaller = let less = ltb-true allowance a smaller in ap (λ (first : ℕ). best ltb first allowances) (omega arith)
-    go false no-smaller = let no_less = ltb-false allowance a no-smaller in ap (λ (first : ℕ). best ltb first allowances) (omega arith)
+    smallest_of_lists cores responses allowances (omega arith) (omega arith) (min a allowance)
 
--- the system's allowance is the best number of the third list
-pub system_allowance_of_lists : (cores responses allowances : List ℕ) → length responses ≡ length cores → length allowances ≡ length cores → 1 ≤ length cores
-    → system_allowance (figures_from cores responses allowances) ≡ best ltb (get_or allowances 0 0) (drop 1 allowances)
+-- the system's allowance is the smallest number of the third list, and 0 where there is none
+pub system_allowance_of_lists : (cores responses allowances : List ℕ) → length responses ≡ length cores → length allowances ≡ length cores
+    → system_allowance (figures_from cores responses allowances) ≡ unwrap_or (reduce min allowances) 0
 unfolding system_allowance figures_from
-system_allowance_of_lists [] responses allowances r l some = absurd (omega arith)
-system_allowance_of_lists (core ∷ cores) [] allowances r l some = absurd (omega arith)
-system_allowance_of_lists (core ∷ cores) (response ∷ responses) [] r l some = absurd (omega arith)
-system_allowance_of_lists (core ∷ cores) (response ∷ responses) (allowance ∷ allowances) r l some =
+system_allowance_of_lists [] [] [] r l = refl
+system_allowance_of_lists [] responses (allowance ∷ allowances) r l = absurd (omega arith)
+system_allowance_of_lists [] (response ∷ responses) [] r l = absurd (omega arith)
+system_allowance_of_lists (core ∷ cores) [] allowances r l = absurd (omega arith)
+system_allowance_of_lists (core ∷ cores) (response ∷ responses) [] r l = absurd (omega arith)
+system_allowance_of_lists (core ∷ cores) (response ∷ responses) (allowance ∷ allowances) r l =
     smallest_of_lists cores responses allowances (omega arith) (omega arith) allowance

@@ -1,31 +1,16 @@
-use mathlib.Core.Path.{◌≡◌, refl, ◌∙◌}
-use native.Mathlib.Omega.{arith}
-use mathlib.Core.List.{[]}
-use lib.ListN.{drop, drop_of_length-le}
-use Rattle.theory.specs.Gather.{best}
-use Rattle.lines.proofs.SmallestSoFar.{smaller_found, none_smaller}
+-- `lines::smallest` meets its contract, by the library's lemmas on `min` of a slice.
+use mathlib.Core.Path.{◌≡◌, sym, ap, ◌∙◌}
+use Prim.Native.Nat.{ℕ, min}
+use Rattle.std.specs.Option.{option_map, unwrap_or}
+use Rattle.std.specs.List.{reduce}
+use Rattle.std.proofs.lemmas.Iterator.Adapters.{option_map_id}
+use Rattle.std.proofs.lemmas.Iterator.{YieldsList-from_slice}
+use Rattle.std.proofs.lemmas.Iterator.Consumers.{YieldsList-from_copied, min_from_yields_List}
 use Rattle.lines.proofs.smallest.Goals as goal
-use Rattle.lines.proofs.smallest.Goals.{then-numbers-i, else-numbers-i}
-
-pub loop-i-init : goal.loop-i-init
-loop-i-init c = (omega arith, refl)
-
-pub loop-i-preserved : goal.loop-i-preserved
-loop-i-preserved c =
-    let numbers = c.args.numbers.now in
-    let i = c.loop-i.i in
-    let found = c.loop-i.found in
-    let so_far = c.loop-i.invariant.1 in (
-      omega arith,
-      elim c.if-numbers-i.branch [
-        | then-numbers-i w ↦ rw w.found-is (smaller_found numbers i found (omega arith) w.if-numbers-i.true) ∙ so_far
-        | else-numbers-i w ↦ rw w.found-is (none_smaller numbers i found (omega arith) w.if-numbers-i.false) ∙ so_far
-      ],
-    )
 
 pub returns : goal.returns
-unfolding best
 returns c =
     let numbers = c.args.numbers.now in
-    let all : drop c.loop-i.i numbers ≡ [] = drop_of_length-le numbers {i = c.loop-i.i} (omega arith) in
-    rw (all, best) at c.loop-i.invariant.1
+    let least : option_map (λ (x : ℕ). x) c.min.result ≡ reduce min numbers =
+    min_from_yields_List c.copied.result c.min.result c.min.ensures.ran (YieldsList-from_copied (YieldsList-from_slice numbers (cc))) in
+    c.unwrap_or.ensures ∙ ap (λ found. unwrap_or found 0) (sym (option_map_id c.min.result) ∙ least)

@@ -1,19 +1,17 @@
+-- `lines::write_number` meets its contract: the digits, and the byte behind them.
+use mathlib.Core.Path.{◌≡◌, ap, ◌∙◌}
 use native.Mathlib.Omega.{arith}
-use lib.ListN.{length-take}
-use Rattle.lines.proofs.Digits.{digits_begin, digits_more, digits_end}
+use lib.ListN.{length, take}
+use Rattle.std.specs.Fmt.{decimal}
+use Rattle.std.proofs.lemmas.Fmt.{length-decimal-le}
+use Rattle.lines.proofs.Written.{number_written}
 use Rattle.lines.proofs.write_number.Goals as goal
-
-pub loop-tens-init : goal.loop-tens-init
-loop-tens-init c = digits_begin c.args.n c.args.behind (omega arith)
-
-pub loop-tens-preserved : goal.loop-tens-preserved
-loop-tens-preserved c = digits_more c.loop-tens.invariant (omega arith)
-
-pub write_bytes-requires : goal.write_bytes-requires
-write_bytes-requires c = simp length-take (omega arith)
 
 pub returns : goal.returns
 returns c =
-    let ensured = c.write_bytes.ensures in
-    let all = digits_end c.loop-tens.invariant (omega arith) in
-    (rw all at ensured.0, omega (arith, simp length-take at ensured.1))
+    let args = c.args in
+    let digits = c.write_bytes-end.ensures in
+    let last = c.write_bytes.ensures in
+    let long = length-decimal-le 10 args.n (omega arith) (omega arith) (omega arith) in
+    let is : c.as_bytes.result.now ≡ decimal args.n = c.as_bytes.ensures.value ∙ c.format.ensures.text in
+    (number_written (take args.at args.text.now) args.n args.behind (omega arith) (rw is at digits.0) last.0, omega (arith, long, ap length is, digits.1, last.1))

@@ -1,6 +1,7 @@
 -- `lines::write_row` meets its contract: four writes, one behind another.
 use native.Mathlib.Omega.{arith}
 use lib.ListN.{take}
+use Rattle.rows.specs.Values.{figures_of}
 use Rattle.lines.proofs.Written.{row_written}
 use Rattle.lines.proofs.write_row.Goals as goal
 
@@ -11,4 +12,4 @@ returns c =
     let two = c.write_number-end-2.ensures in
     let three = c.write_number-end-3.ensures in
     let four = c.write_number.ensures in
-    (row_written (take args.at args.text.now) args.number (record { core = args.core; response = args.response; allowance = args.allowance }) one.0 two.0 three.0 four.0, omega (arith, one.1))
+    (row_written (take args.at args.text.now) args.number (figures_of args.figures) one.0 two.0 three.0 four.0, omega (arith, one.1))
