@@ -10,7 +10,7 @@ use Rattle.texts.specs.Text.{quote, begins_with, held}
 use Rattle.texts.specs.Rest.{lines_behind, rest_of_field, fields_behind, Plain}
 use Rattle.texts.proofs.Lines.{Ordinary, plain_ordinary, quote_ordinary, InField, ordinary_in_field, first_of_field}
 use Rattle.texts.proofs.Held.{held_plain, held_quoted, plain_begins, plain_right, quoted_right}
-use Rattle.fields.specs.declared.Place.TheVariants.{At, Nowhere}
+use Rattle.std.specs.Prelude.{Some, None}
 use Rattle.fields.specs.Found.{opening, IsFieldEnd, EndsAt, Wrong}
 use Rattle.fields.proofs.Begins.{stands_there}
 
@@ -26,28 +26,9 @@ opened text at = go (begins_with quote (drop at text)) refl
     go true begins = (stands_there text at quote begins).1
     go false begins = let same : at ≡ at + 0 = omega arith in ap (λ (k : ℕ). drop k text) same
 
--- with a quote in front and without one
+-- with a quote in front
 opens : (text : List ℕ) → begins_with quote text ≡ true → quote ∷ [] ≡ opening text
 opens text begins = ap opening_by (sym begins)
-
-not_opens : (text : List ℕ) → begins_with quote text ≡ false → [] ≡ opening text
-not_opens text none = ap opening_by (sym none)
-
--- the place of the content
-pub content_behind_quote :
-    (text : List ℕ) (at : ℕ) → begins_with quote (drop at text) ≡ true → (at + 1 ≡ at + length (opening (drop at text))) × (at + 1 ≤ length text)
-content_behind_quote text at begins = (ap (λ (quotes : List ℕ). at + length quotes) (opens (drop at text) begins), omega (arith, (stands_there text at quote begins).0))
-
-pub content_at_once : (text : List ℕ) (at : ℕ) → begins_with quote (drop at text) ≡ false → at ≤ length text → (at ≡ at + length (opening (drop at text))) × (at ≤ length text)
-content_at_once text at none inside = (omega (arith, ap length (not_opens (drop at text) none)), inside)
-
--- by that place it is known whether a quote opens the field
-pub no_quote_opens : (text : List ℕ) (at content : ℕ) → content ≡ at + length (opening (drop at text)) → content ≡ at → begins_with quote (drop at text) ≡ false
-no_quote_opens text at content begins same = go (begins_with quote (drop at text)) begins
-  where
-    go : (opens : Bool) → content ≡ at + length (opening_by opens) → opens ≡ false
-    go true begins = absurd (omega (arith, begins, same))
-    go false begins = refl
 
 pub quote_opens : (text : List ℕ) (at content : ℕ) → content ≡ at + length (opening (drop at text)) → (content ≡ at → ⊥) → begins_with quote (drop at text) ≡ true
 quote_opens text at content begins further = go (begins_with quote (drop at text)) begins
@@ -56,12 +37,7 @@ quote_opens text at content begins further = go (begins_with quote (drop at text
     go true begins = refl
     go false begins = absurd (further (omega (arith, begins)))
 
--- the place behind the field, where its content ends
-pub plain_ends : (text : List ℕ) (at end : ℕ) → begins_with quote (drop at text) ≡ false → end ≤ length text → IsFieldEnd text at end (At end)
-plain_ends text at end none inside =
-    let no-quotes = not_opens (drop at text) none in (ap (λ (quotes : List ℕ). quotes ++ drop end text) no-quotes, omega (arith, ap length no-quotes), inside)
-
-pub quoted_ends : (text : List ℕ) (at end : ℕ) → begins_with quote (drop at text) ≡ true → begins_with quote (drop end text) ≡ true → IsFieldEnd text at end (At (end + 1))
+pub quoted_ends : (text : List ℕ) (at end : ℕ) → begins_with quote (drop at text) ≡ true → begins_with quote (drop end text) ≡ true → IsFieldEnd text at end (Some (end + 1))
 quoted_ends text at end begins closes =
     let there = stands_there text end quote closes in
     let quotes = opens (drop at text) begins in
@@ -128,14 +104,14 @@ module _ (Right : List ℕ → Type 0) (no_quote : (front behind : List ℕ) →
   pub wrong_content : (Right bytes → ⊥) → Wrong Right text at
   wrong_content wrong right = wrong (right_content right).1
 
-  pub not_closed : IsFieldEnd text at end Nowhere → Wrong Right text at
+  pub not_closed : IsFieldEnd text at end None → Wrong Right text at
   not_closed place right =
       let closes = (right_content right).0 ∙ ap opening_by place.0 in
       let first = first_of_field (drop end text) quote [] closes in
       true≢false (sym (ap (begins_with quote) first.1) ∙ place.1)
 
   -- right content up to a place
-  module _ (next : ℕ) (place : IsFieldEnd text at end (At next)) where
+  module _ (next : ℕ) (place : IsFieldEnd text at end (Some next)) where
     closing_in_field : InField quotes (drop next text)
     closing_in_field = ordinary_in_field quotes (drop next text) (opening_ordinary (begins_with quote (drop at text)))
 

@@ -3,106 +3,96 @@
 
 ghost use Rattle.std.specs.Prelude.{◌≡◌, ◌+◌, ◌≤◌, ◌<◌, length, drop};
 ghost use Rattle.theory.specs.Gather.{All};
-ghost use Rattle.texts.specs.Text.{is_digit, begins_with};
+ghost use Rattle.texts.specs.Text.{begins_with};
 ghost use Rattle.texts.specs.Rest.{Plain};
-ghost use Rattle.fields.specs.declared.Behind.TheVariants.{Comma, LineEnd};
-ghost use Rattle.fields.specs.Found.{capped, opening, IsDigits, Matches, IsFieldEnd, IsField, IsName, IsBetween, IsFieldThen, IsNameThen, IsHeader, IsLine};
+ghost use Rattle.fields.specs.Found.{Behind, comma_behind, line_end_behind, opening, IsDigits, IsFieldEnd, IsField, IsName, IsBetween, IsFieldThen, IsNameThen, IsHeader, IsLine};
 
-// A place in a text, or none.
-#[derive(Drop)]
-pub enum Place {
-    At(usize),
-    Nowhere,
-}
+use rows::Row;
 
 // What has to stand behind a field.
-#[derive(Drop)]
-enum Behind {
-    Comma,
-    LineEnd,
+trait Separator {
+    ghost kind: { Behind };
+
+    // The place behind it, where it stands at a place.
+    fn behind(text: &[u8], at: usize) -> Option<usize>
+        requires { at ≤ length text.now }
+        ensures { IsBetween kind text.now at result };
 }
 
-// Digits from a place on: the number that they are, and the place behind them.
-#[derive(Drop)]
-struct Digits {
-    number: u32,
+struct Comma;
+
+struct LineEnd;
+
+impl Separator for Comma {
+    ghost kind = { comma_behind };
+
+    fn behind(text: &[u8], at: usize) -> Option<usize> {
+        if stands_at(text, at, b',') {
+            return Some(at + 1);
+        }
+        None
+    }
+}
+
+// LF, CR LF, or the end of the text.
+impl Separator for LineEnd {
+    ghost kind = { line_end_behind };
+
+    fn behind(text: &[u8], at: usize) -> Option<usize> {
+        let rest = &text[at..];
+        if rest.is_empty() {
+            return Some(at);
+        }
+        if rest.starts_with(b"\n") {
+            return Some(at + 1);
+        }
+        if rest.starts_with(b"\r\n") {
+            return Some(at + 2);
+        }
+        None
+    }
+}
+
+// A number as it is held, and the place behind its digits or its field.
+#[derive(Clone, Copy)]
+struct Number {
+    value: u32,
     end: usize,
 }
 
-// A field that holds a number, and the place where it goes on; or another field.
-#[derive(Drop)]
-enum Field {
-    Number(u32, usize),
-    Broken,
-}
-
-// A line that is a row, its C, D and T, and the place behind it; or another line.
-#[derive(Drop)]
-pub enum Line {
-    Row(u32, u32, u32, usize),
-    Broken,
+// A line that is a row, the row as it is held, and the place behind the line.
+#[derive(Clone, Copy)]
+pub struct Line {
+    pub row: Row,
+    pub next: usize,
 }
 
 // Whether a byte stands at a place.
 fn stands_at(text: &[u8], at: usize, byte: u8) -> bool
     ensures { result ≡ begins_with byte (drop at text.now) }
 {
-    if at < text.len() {
-        return text[at] == byte;
-    }
-    false
-}
-
-fn is_digit(byte: u8) -> bool
-    ensures { result ≡ is_digit byte }
-{
-    if byte < b'0' {
-        return false;
-    }
-    byte <= b'9'
-}
-
-// A number above a million is held as a million and one.
-fn cap(number: u32) -> u32
-    ensures { result ≡ capped number }
-{
-    if 1000001 < number {
-        return 1000001;
-    }
-    number
+    text.get(at) == Some(&byte)
 }
 
 // The digits from a place on.
-fn read_digits(text: &[u8], at: usize) -> Digits
+fn read_digits(text: &[u8], at: usize) -> Number
     requires { at ≤ length text.now }
     ensures { IsDigits text.now at result }
 {
-    let mut number = 0u32;
-    let mut end = at;
-    while end < text.len() {
-        let byte = text[end];
-        if !is_digit(byte) {
-            return Digits { number, end };
+    let mut value = 0u32;
+    for (many, byte) in text[at..].iter().enumerate() {
+        if !byte.is_ascii_digit() {
+            return Number {
+                value,
+                end: at + many,
+            };
         }
-        number = cap(number * 10 + (byte - b'0') as u32);
-        end += 1;
+        value = (value * 10 + u32::from(byte - b'0')).min(1_000_001);
     }
-    Digits { number, end }
-}
-
-// How many bytes of a name stand from a place on.
-fn matched(text: &[u8], at: usize, name: &[u8]) -> usize
-    requires { at ≤ length text.now }
-    ensures { Matches text.now at name.now result }
-{
-    let mut many = 0;
-    while many < name.len() {
-        if !stands_at(text, at + many, name[many]) {
-            return many;
-        }
-        many += 1;
+    Number {
+        value,
+        end: text.len(),
     }
-    many
 }
 
 // Where the content of the field at a place begins: behind the quote that opens it.
@@ -117,142 +107,93 @@ fn content_at(text: &[u8], at: usize) -> usize
 }
 
 // Where the field at a place ends, with content from a second place to a third: behind the quote that closes it, where one opens it.
-fn field_end(text: &[u8], at: usize, content: usize, end: usize) -> Place
+fn field_end(text: &[u8], at: usize, content: usize, end: usize) -> Option<usize>
     requires { (content ≡ at + length (opening (drop at text.now))) × (end ≤ length text.now) }
     ensures { IsFieldEnd text.now at end result }
 {
     if content == at {
-        return Place::At(end);
+        return Some(end);
     }
     if !stands_at(text, end, b'"') {
-        return Place::Nowhere;
+        return None;
     }
-    Place::At(end + 1)
+    Some(end + 1)
 }
 
 // The field at a place, where a number is wanted.
-fn read_number(text: &[u8], at: usize) -> Field
+fn read_number(text: &[u8], at: usize) -> Option<Number>
     requires { at ≤ length text.now }
     ensures { IsField text.now at result }
 {
     let content = content_at(text, at);
     let digits = read_digits(text, content);
-    let end = digits.end;
-    if end == content {
-        return Field::Broken;
+    if digits.end == content {
+        return None;
     }
-    match field_end(text, at, content, end) {
-        Place::At(next) => Field::Number(digits.number, next),
-        Place::Nowhere => Field::Broken,
-    }
+    let end = field_end(text, at, content, digits.end)?;
+    Some(Number {
+        value: digits.value,
+        end,
+    })
 }
 
 // The field at a place, where a name is wanted.
-fn read_name(text: &[u8], at: usize, name: &[u8]) -> Place
+fn read_name(text: &[u8], at: usize, name: &[u8]) -> Option<usize>
     requires { (at ≤ length text.now) × (0 < length name.now) × All Plain name.now }
     ensures { IsName name.now text.now at result }
 {
     let content = content_at(text, at);
-    let many = matched(text, content, name);
-    if many < name.len() {
-        return Place::Nowhere;
+    if !text[content..].starts_with(name) {
+        return None;
     }
-    field_end(text, at, content, content + many)
-}
-
-// The place behind a comma that stands at a place.
-fn behind_comma(text: &[u8], at: usize) -> Place
-    requires { at ≤ length text.now }
-    ensures { IsBetween Comma text.now at result }
-{
-    if stands_at(text, at, b',') {
-        return Place::At(at + 1);
-    }
-    Place::Nowhere
-}
-
-// The place behind a line end that stands at a place: LF, CR LF, or the end of the text.
-fn behind_line(text: &[u8], at: usize) -> Place
-    requires { at ≤ length text.now }
-    ensures { IsBetween LineEnd text.now at result }
-{
-    if at == text.len() {
-        return Place::At(at);
-    }
-    if text[at] == b'\n' {
-        return Place::At(at + 1);
-    }
-    if text[at] != b'\r' {
-        return Place::Nowhere;
-    }
-    if stands_at(text, at + 1, b'\n') {
-        return Place::At(at + 2);
-    }
-    Place::Nowhere
-}
-
-// The place behind what has to stand at a place.
-fn behind_it(text: &[u8], at: usize, behind: Behind) -> Place
-    requires { at ≤ length text.now }
-    ensures { IsBetween behind text.now at result }
-{
-    match behind {
-        Behind::Comma => behind_comma(text, at),
-        Behind::LineEnd => behind_line(text, at),
-    }
+    field_end(text, at, content, content + name.len())
 }
 
 // The field at a place, where a number is wanted and something behind it.
-fn number_then(text: &[u8], at: usize, behind: Behind) -> Field
+fn number_then<S: Separator>(text: &[u8], at: usize) -> Option<Number>
     requires { at ≤ length text.now }
-    ensures { IsFieldThen behind text.now at result }
+    ensures { IsFieldThen S.kind text.now at result }
 {
-    match read_number(text, at) {
-        Field::Number(number, end) => match behind_it(text, end, behind) {
-            Place::At(next) => Field::Number(number, next),
-            Place::Nowhere => Field::Broken,
-        },
-        Field::Broken => Field::Broken,
-    }
+    let number = read_number(text, at)?;
+    let end = S::behind(text, number.end)?;
+    Some(Number {
+        value: number.value,
+        end,
+    })
 }
 
 // The field at a place, where a name is wanted and something behind it.
-fn name_then(text: &[u8], at: usize, name: &[u8], behind: Behind) -> Place
+fn name_then<S: Separator>(text: &[u8], at: usize, name: &[u8]) -> Option<usize>
     requires { (at ≤ length text.now) × (0 < length name.now) × All Plain name.now }
-    ensures { IsNameThen behind name.now text.now at result }
+    ensures { IsNameThen S.kind name.now text.now at result }
 {
-    match read_name(text, at, name) {
-        Place::At(end) => behind_it(text, end, behind),
-        Place::Nowhere => Place::Nowhere,
-    }
+    let end = read_name(text, at, name)?;
+    S::behind(text, end)
 }
 
-// The header, from the front of a text.
-pub fn read_header(text: &[u8]) -> Place
+// The header, from the front of a text: the place behind it.
+pub fn read_header(text: &[u8]) -> Option<usize>
     ensures { IsHeader text.now result }
 {
-    match name_then(text, 0, b"wcet", Behind::Comma) {
-        Place::At(second) => match name_then(text, second, b"deadline", Behind::Comma) {
-            Place::At(third) => name_then(text, third, b"period", Behind::LineEnd),
-            Place::Nowhere => Place::Nowhere,
-        },
-        Place::Nowhere => Place::Nowhere,
-    }
+    let second = name_then::<Comma>(text, 0, b"wcet")?;
+    let third = name_then::<Comma>(text, second, b"deadline")?;
+    name_then::<LineEnd>(text, third, b"period")
 }
 
 // The line from a place on, where a row is wanted.
-pub fn read_line(text: &[u8], at: usize) -> Line
+pub fn read_line(text: &[u8], at: usize) -> Option<Line>
     requires { at ≤ length text.now }
     ensures { IsLine text.now at result }
 {
-    match number_then(text, at, Behind::Comma) {
-        Field::Number(c, second) => match number_then(text, second, Behind::Comma) {
-            Field::Number(d, third) => match number_then(text, third, Behind::LineEnd) {
-                Field::Number(t, next) => Line::Row(c, d, t, next),
-                Field::Broken => Line::Broken,
-            },
-            Field::Broken => Line::Broken,
+    let c = number_then::<Comma>(text, at)?;
+    let d = number_then::<Comma>(text, c.end)?;
+    let t = number_then::<LineEnd>(text, d.end)?;
+    Some(Line {
+        row: Row {
+            c: c.value,
+            d: d.value,
+            t: t.value,
         },
-        Field::Broken => Line::Broken,
-    }
+        next: t.end,
+    })
 }

@@ -1,33 +1,24 @@
 use native.Mathlib.Omega.{arith}
-use mathlib.Core.Path.{sym, ◌∙◌}
-use lib.ListN.{get_or}
-use Rattle.listing.proofs.Decimal.{IsDigit}
-use Rattle.texts.proofs.Numbers.{passed_digit}
+use mathlib.Core.Path.{◌≡◌, sym, ap, subst, ◌∙◌}
+use Prim.Native.Nat.{ℕ, ◌+◌, ◌*◌}
+use lib.ListN.{length, length-drop}
+use Rattle.fields.specs.Found.{capped, DigitsTo}
+use Rattle.fields.proofs.Begins.{rest_is}
 use Rattle.fields.proofs.SoFar.{digits_begin, digits_go_on, digits_stop, text_stops}
 use Rattle.fields.proofs.read_digits.Goals as goal
 
-pub loop-end-init : goal.loop-end-init
-loop-end-init c = digits_begin c.args.text.now c.args.at c.requires
+pub loop-many-init : goal.loop-many-init
+loop-many-init c = digits_begin c.args.text.now c.args.at c.requires
 
-pub returns-then-not-is_digit : goal.returns-then-not-is_digit
-returns-then-not-is_digit c =
-    let turn = c.loop-end in (turn.invariant, digits_stop c.args.text.now turn.end (omega arith) (sym c.is_digit.ensures ∙ c.if-not-is_digit.true))
+pub returns-then-not-is_ascii_digit : goal.returns-then-not-is_ascii_digit
+returns-then-not-is_ascii_digit c = (c.loop-many.invariant, digits_stop c.loop-many.invariant c.loop-many-test.true (sym c.is_ascii_digit.ensures.value ∙ c.if-not-is_ascii_digit.true))
 
-pub overflow_mul-number : goal.overflow_mul-number
-overflow_mul-number c = omega (arith, c.loop-end.invariant.as_held)
-
-pub overflow_sub-byte : goal.overflow_sub-byte
-overflow_sub-byte c =
-    let one-digit : IsDigit (get_or c.args.text.now c.loop-end.end 0) = passed_digit _ (sym c.is_digit.ensures ∙ c.if-not-is_digit.false) in
-    omega (arith, one-digit)
-
-pub overflow_add-number : goal.overflow_add-number
-overflow_add-number c =
-    let one-digit : IsDigit (get_or c.args.text.now c.loop-end.end 0) = passed_digit _ (sym c.is_digit.ensures ∙ c.if-not-is_digit.false) in
-    omega (arith, one-digit)
-
-pub loop-end-preserved : goal.loop-end-preserved
-loop-end-preserved c = digits_go_on c.loop-end.invariant (omega arith) (sym c.is_digit.ensures ∙ c.if-not-is_digit.false) c.cap-number.result c.cap-number.ensures
+pub loop-many-preserved : goal.loop-many-preserved
+loop-many-preserved c =
+    digits_go_on c.loop-many.invariant c.loop-many-test.true (sym c.is_ascii_digit.ensures.value ∙ c.if-not-is_ascii_digit.false) c.min-value.result (c.min-value.ensures ∙ ap (λ (digit : ℕ). capped (c.loop-many.value * 10 + digit)) c.from.ensures)
 
 pub returns : goal.returns
-returns c = (c.loop-end.invariant, text_stops c.args.text.now c.loop-end.end (omega arith))
+returns c =
+    let text = c.args.text.now in
+    let ended : c.args.at + c.loop-many.many ≡ length text = omega (arith, length-drop c.args.at text, ap length (rest_is text c.args.at), c.loop-many.invariant.inside) in
+    (subst (DigitsTo text c.args.at c.loop-many.value) ended c.loop-many.invariant, text_stops text (length text) (omega arith))
