@@ -7,32 +7,32 @@ use mathlib.Core.List.{List}
 use native.Mathlib.Omega.{arith}
 use native.Mathlib.Nat.{le_of_suc-le-suc, eq-or-lt_of_le}
 use lib.Dec.{T}
+use Rattle.std.specs.Prelude.{Option, Some, None}
 use Rattle.theory.specs.Response.{AllMeet}
 use Rattle.theory.specs.Allowance.{IsCoreAllowance}
 use Rattle.theory.proofs.Each.{T_true, T_false}
 use Rattle.theory.proofs.CoreAllowance.{core_allowance_unique}
 use Rattle.placement.specs.Core.{Table}
 use Rattle.placement.specs.Choice.{Candidate, Rule, IsRule, joined, IsCandidate, IsChosen, NoCandidate}
-use Rattle.choices.specs.declared.Choice.{Choice}
-use Rattle.choices.specs.declared.Choice.TheVariants.{NoCore, Core}
-use Rattle.choices.specs.Among.{counted, BestAmong, IsChoiceAmong}
+use Rattle.choices.specs.declared.Candidate.{Candidate as HeldCandidate}
+use Rattle.choices.specs.Among.{candidate_of, counted, BestAmong, IsChoiceAmong}
 
 module _ (rule : Rule) (table : Table) (assignment : List ℕ) (i : ℕ) where
   -- among no cores there is no candidate
-  pub none_among_none : IsChoiceAmong rule table assignment i 0 NoCore
+  pub none_among_none : IsChoiceAmong rule table assignment i 0 None
   none_among_none other no-core is = omega (arith, is.from_one)
 
   -- among all cores it is the row's choice
-  pub chosen_among_all : (core allowance : ℕ) → IsChoiceAmong rule table assignment i table.cores (Core core allowance) → IsChosen rule table assignment i core
-  chosen_among_all core allowance best =
+  pub chosen_among_all : (candidate : HeldCandidate) → IsChoiceAmong rule table assignment i table.cores (Some candidate) → IsChosen rule table assignment i candidate.core
+  chosen_among_all candidate best =
       record {
-        choice = record { core = core; allowance = allowance };
+        choice = candidate_of candidate;
         its_core = refl;
         is_candidate = best.is_candidate;
         none_preferred = λ other is. best.none_preferred other is.on_table is;
       }
 
-  pub none_among_all : IsChoiceAmong rule table assignment i table.cores NoCore → NoCandidate table assignment i
+  pub none_among_all : IsChoiceAmong rule table assignment i table.cores None → NoCandidate table assignment i
   none_among_all none candidate is = none candidate is.on_table is
 
   module _ (m : ℕ) where
@@ -41,11 +41,11 @@ module _ (rule : Rule) (table : Table) (assignment : List ℕ) (i : ℕ) where
     earlier_or_next P other h earlier next = ⊎_elim next (λ l. earlier (le_of_suc-le-suc l)) (eq-or-lt_of_le h)
 
     -- where the next core does not take the row, the choice stays
-    pub among_next_refused : (choice : Choice) → IsChoiceAmong rule table assignment i m choice → (AllMeet (joined table assignment i (suc m)) → ⊥)
+    pub among_next_refused : (choice : Option HeldCandidate) → IsChoiceAmong rule table assignment i m choice → (AllMeet (joined table assignment i (suc m)) → ⊥)
         → IsChoiceAmong rule table assignment i (suc m) choice
-    among_next_refused NoCore among refuses = λ other h is.
+    among_next_refused None among refuses = λ other h is.
         earlier_or_next (λ c. ⊥) other h (λ l. among other l is) (λ e. refuses (subst (λ (n : ℕ). AllMeet (joined table assignment i n)) e is.all_meet))
-    among_next_refused (Core core allowance) among refuses =
+    among_next_refused (Some candidate) among refuses =
         record {
           is_candidate = among.is_candidate;
           none_preferred = λ other h is t.
@@ -83,15 +83,15 @@ module _ (rule : Rule) (table : Table) (assignment : List ℕ) (i : ℕ) where
                 earlier_or_next (λ c. ⊥) other h (λ l. none other l is t) (λ e. not_preferred next (λ s. is-rule.asymmetric next next s s) other is e t);
           }
 
-      pub among_next_taken : (choice : Choice) → IsChoiceAmong rule table assignment i m choice → IsChoiceAmong rule table assignment i (suc m) (counted rule choice (suc m) a)
+      pub among_next_taken : (choice : Option HeldCandidate) → IsChoiceAmong rule table assignment i m choice → IsChoiceAmong rule table assignment i (suc m) (counted rule choice (record { core = suc m; allowance = a }))
       unfolding next
-      among_next_taken NoCore among = next_best (λ other l is t. among other l is)
-      among_next_taken (Core core allowance) among = go (rule next best) refl
+      among_next_taken None among = next_best (λ other l is t. among other l is)
+      among_next_taken (Some candidate) among = go (rule next best) refl
         where
           best : Candidate
-          best = record { core = core; allowance = allowance }
+          best = candidate_of candidate
 
-          go : (preferred : Bool) → rule next best ≡ preferred → IsChoiceAmong rule table assignment i (suc m) (elim preferred [ true ↦ Core (suc m) a | false ↦ Core core allowance ])
+          go : (preferred : Bool) → rule next best ≡ preferred → IsChoiceAmong rule table assignment i (suc m) (elim preferred [ true ↦ Some (record { core = suc m; allowance = a }) | false ↦ Some candidate ])
           go true e = next_best (λ other l is t. among.none_preferred other l is (is-rule.transitive other next best t (T_true (rule next best) e)))
           go false e =
               record {

@@ -3,40 +3,28 @@
 
 ghost use Rattle.std.specs.Prelude.{◌≡◌};
 ghost use Rattle.placement.specs.Choice.{allowance_fit};
-ghost use Rattle.choices.specs.Among.{counted};
+ghost use Rattle.choices.specs.Among.{candidate_of, counted};
 
-// What is chosen so far: no core, or a core by its number with its core allowance.
-#[derive(Drop)]
-pub enum Choice {
-    NoCore,
-    Core(usize, u32),
+// A core that takes a row, by its number, with its core allowance.
+#[derive(Clone, Copy)]
+pub struct Candidate {
+    pub core: usize,
+    pub allowance: u32,
 }
 
-// The rule of choice: whether a candidate, by its core number and core allowance, is preferred to another.
-fn preferred(core: usize, allowance: u32, other: usize, others: u32) -> bool
-    ensures { result ≡ allowance_fit (record { core = core; allowance = allowance }) (record { core = other; allowance = others }) }
+// The rule of choice: whether a candidate is preferred to another.
+fn preferred(candidate: Candidate, other: Candidate) -> bool
+    ensures { result ≡ allowance_fit (candidate_of candidate) (candidate_of other) }
 {
-    if others < allowance {
-        return true;
-    }
-    if others == allowance {
-        return core < other;
-    }
-    false
+    (other.allowance, candidate.core) < (candidate.allowance, other.core)
 }
 
-// The choice with one candidate more.
-pub fn choice_with(choice: Choice, core: usize, allowance: u32) -> Choice
-    ensures { result ≡ counted allowance_fit choice core allowance }
+// The choice with one candidate more; None is no core.
+pub fn choice_with(choice: Option<Candidate>, candidate: Candidate) -> Option<Candidate>
+    ensures { result ≡ counted allowance_fit choice candidate }
 {
     match choice {
-        Choice::NoCore => Choice::Core(core, allowance),
-        Choice::Core(other, others) => {
-            if preferred(core, allowance, other, others) {
-                Choice::Core(core, allowance)
-            } else {
-                Choice::Core(other, others)
-            }
-        }
+        Some(other) if !preferred(candidate, other) => Some(other),
+        _ => Some(candidate),
     }
 }

@@ -57,7 +57,6 @@ module _ {assignment : List ℕ} {rows : List (List ℕ)} {counts : List ℕ} (h
     pub held_joined : places_on (set assignment i (suc m)) (suc m) ≡ insert ltb i (held_places rows counts m)
     held_joined = places_joined assignment i (suc m) in_table (λ e. omega arith) ∙ ap (insert ltb i) (sym (holds.places m on_table))
 
-    -- with those stored for the core and its count raised, the cores hold the assignment with row i on it
     module _ (array : List ℕ) (stored : take (suc (length (held_places rows counts m))) array ≡ insert ltb i (held_places rows counts m)) where
       abbrev counted : List ℕ
       counted = set counts m (get_or counts m 0 + 1)
@@ -84,8 +83,8 @@ module _ {assignment : List ℕ} {rows : List (List ℕ)} {counts : List ℕ} (h
           let count : get_or counted k 0 ≡ get_or counts k 0 = get_or-set_other counts m k (get_or counts m 0 + 1) 0 d in
           (rw (count, same) (holds.how_many k h), rw (count, get_or-set_other rows m k array [] d, same) (holds.places k h))
 
-      pub held_put : HoldsCores (set assignment i (suc m)) (set rows m array) counted
-      held_put =
+      held_after : HoldsCores (set assignment i (suc m)) (set rows m array) counted
+      held_after =
           let each : (k : ℕ) → k < 8 → Holds k = λ k h. ⊎_elim (λ e. subst Holds (sym e) holds_here) (holds_elsewhere k h) (equal_or_not k m) in
           record {
             eight_arrays = length-set rows m array ∙ holds.eight_arrays;
@@ -93,3 +92,8 @@ module _ {assignment : List ℕ} {rows : List (List ℕ)} {counts : List ℕ} (h
             how_many = λ k h. (each k h).0;
             places = λ k h. (each k h).1;
           }
+
+    -- with those stored for the core and its count raised, the cores hold the assignment with row i on it
+    pub held_put : (places array : List ℕ) → places ≡ held_places rows counts m → take (suc (length places)) array ≡ insert ltb i places
+        → HoldsCores (set assignment i (suc m)) (set rows m array) (set counts m (get_or counts m 0 + 1))
+    held_put places array same stored = held_after array (subst (λ (xs : List ℕ). take (suc (length xs)) array ≡ insert ltb i xs) same stored)
