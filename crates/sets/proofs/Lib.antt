@@ -1,4 +1,3 @@
 -- Laws of the list services.
-pub mod Front
 pub mod Stages
 pub mod Explaining

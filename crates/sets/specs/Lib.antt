@@ -1,2 +1,2 @@
 -- What the list services have in common.
-pub mod Begun
+pub mod Stages
