@@ -5,7 +5,8 @@ use mathlib.Core.List.{List, [], ◌∷◌}
 use native.Mathlib.Omega.{arith}
 use lib.ListN.{length, get_or, length-drop, drop_of_length-le}
 use borrow.Author.Tests.{eq-eqb, ne_eqb}
-use Rattle.answers.specs.declared.Answer.TheVariants.{Accepted, RecordsBroken, RowsOutOfRange, CountDiffers}
+use Rattle.answers.specs.declared.Refusal.TheVariants.{RecordsBroken, RowsOutOfRange, CountDiffers}
+use Rattle.std.specs.Prelude.{Ok, Err}
 use Rattle.theory.specs.Row.{Row}
 use Rattle.records.specs.Reading.{read_count}
 use Rattle.reading.specs.Next.{ended_with, IsCount}
@@ -13,16 +14,16 @@ use Rattle.reading.proofs.Bytes.{byte_and_rest}
 
 module _ (cores : ℕ) where
   -- without rows a count is refused, whatever it is
-  no_rows : (rows : List Row) (count : ℕ) (after : List ℕ) → length rows ≡ 0 → read_count cores rows (count ∷ after) ≡ ended_with RowsOutOfRange cores rows
-  unfolding read_count ended_with
+  no_rows : (rows : List Row) (count : ℕ) (after : List ℕ) → length rows ≡ 0 → read_count cores rows (count ∷ after) ≡ ended_with (Err RowsOutOfRange) cores rows
+  unfolding read_count
   no_rows [] count after none = refl
   no_rows (row ∷ rows) count after none = absurd (omega arith)
 
   -- another count is refused, whatever comes after
   other_count :
       (rows : List Row) (count : ℕ) (after : List ℕ) → 1 ≤ length rows → (count ≡ length rows → ⊥)
-      → read_count cores rows (count ∷ after) ≡ ended_with CountDiffers cores rows
-  unfolding read_count ended_with
+      → read_count cores rows (count ∷ after) ≡ ended_with (Err CountDiffers) cores rows
+  unfolding read_count
   other_count [] count after some other = absurd (omega arith)
   other_count (row ∷ rows) count [] some other = rw (ne_eqb count (length (row ∷ rows)) other, read_count)
   other_count (row ∷ rows) count (byte ∷ after) some other = rw (ne_eqb count (length (row ∷ rows)) other, read_count)
@@ -30,34 +31,34 @@ module _ (cores : ℕ) where
   -- bytes after the count are refused
   bytes_after :
       (rows : List Row) (count : ℕ) (after : List ℕ) → 1 ≤ length rows → count ≡ length rows → 1 ≤ length after
-      → read_count cores rows (count ∷ after) ≡ ended_with RecordsBroken cores rows
-  unfolding read_count ended_with
+      → read_count cores rows (count ∷ after) ≡ ended_with (Err RecordsBroken) cores rows
+  unfolding read_count
   bytes_after [] count after some same more = absurd (omega arith)
   bytes_after (row ∷ rows) count [] some same more = absurd (omega arith)
   bytes_after (row ∷ rows) count (byte ∷ after) some same more = rw (eq-eqb count (length (row ∷ rows)) same, read_count)
 
   -- the count with nothing after it ends the table
-  right_count : (rows : List Row) (count : ℕ) → 1 ≤ length rows → count ≡ length rows → read_count cores rows (count ∷ []) ≡ ended_with Accepted cores rows
-  unfolding read_count ended_with
+  right_count : (rows : List Row) (count : ℕ) → 1 ≤ length rows → count ≡ length rows → read_count cores rows (count ∷ []) ≡ ended_with (Ok tt) cores rows
+  unfolding read_count
   right_count [] count some same = absurd (omega arith)
   right_count (row ∷ rows) count some same = rw (eq-eqb count (length (row ∷ rows)) same, read_count)
 
 module _ (bytes : List ℕ) (at n : ℕ) where
-  pub count_cut : length bytes ≤ at → IsCount bytes at n RecordsBroken
-  unfolding read_count ended_with
+  pub count_cut : length bytes ≤ at → IsCount bytes at n (Err RecordsBroken)
+  unfolding read_count
   count_cut past cores rows many = rw (drop_of_length-le bytes past)
 
   module _ (inside : at < length bytes) where
-    pub count_without_rows : n ≡ 0 → IsCount bytes at n RowsOutOfRange
+    pub count_without_rows : n ≡ 0 → IsCount bytes at n (Err RowsOutOfRange)
     count_without_rows none cores rows many = rw (byte_and_rest bytes at inside) (no_rows cores rows _ _ (omega arith))
 
-    pub count_differs : (n ≡ 0 → ⊥) → (get_or bytes at 0 ≡ n → ⊥) → IsCount bytes at n CountDiffers
+    pub count_differs : (n ≡ 0 → ⊥) → (get_or bytes at 0 ≡ n → ⊥) → IsCount bytes at n (Err CountDiffers)
     count_differs some other cores rows many = rw (byte_and_rest bytes at inside) (other_count cores rows _ _ (omega arith) (λ same. other (same ∙ many)))
 
-    pub count_and_more : (n ≡ 0 → ⊥) → get_or bytes at 0 ≡ n → at + 1 < length bytes → IsCount bytes at n RecordsBroken
+    pub count_and_more : (n ≡ 0 → ⊥) → get_or bytes at 0 ≡ n → at + 1 < length bytes → IsCount bytes at n (Err RecordsBroken)
     count_and_more some same more cores rows many =
         rw (byte_and_rest bytes at inside) (bytes_after cores rows _ _ (omega arith) (same ∙ sym many) (omega (arith, length-drop (at + 1) bytes)))
 
-    pub count_ends : (n ≡ 0 → ⊥) → get_or bytes at 0 ≡ n → length bytes ≤ at + 1 → IsCount bytes at n Accepted
+    pub count_ends : (n ≡ 0 → ⊥) → get_or bytes at 0 ≡ n → length bytes ≤ at + 1 → IsCount bytes at n (Ok tt)
     count_ends some same nothing cores rows many =
         rw (byte_and_rest bytes at inside, drop_of_length-le bytes nothing) (right_count cores rows _ (omega arith) (same ∙ sym many))

@@ -1,13 +1,13 @@
 -- The rows at the fronts of three arrays: how many they are, and one more.
 use mathlib.Core.Path.{◌≡◌, refl, ap, ◌∙◌}
-use Prim.Native.Nat.{ℕ, ◌+◌, ◌<◌}
+use Prim.Native.Nat.{ℕ, ◌+◌, ◌≤◌, ◌<◌}
 use mathlib.Core.List.{List, [], ◌∷◌, ◌++◌}
 use native.Mathlib.Omega.{arith}
 use native.Mathlib.Numerals.{add-one}
 use lib.ListN.{length, take, set, length-set}
 use lib.Seq.{take-suc-set, length-take-le}
 use Rattle.theory.specs.Row.{Row}
-use Rattle.theory.specs.Lists.{rows_of}
+use Rattle.theory.specs.Lists.{Shaped, rows_of}
 use Rattle.theory.proofs.RowsOf.{rows_of_length}
 use Rattle.reading.specs.Held.{held_rows, Held}
 
@@ -32,6 +32,15 @@ module _ (c d t : List ℕ) (n : ℕ) (held : Held n c d t) where
 
   pub held_rows_many : length (held_rows n c d t) ≡ n
   held_rows_many = rows_of_length (take n c) (take n d) (take n t) (omega (arith, fronts)) (omega (arith, fronts)) ∙ fronts.0
+
+  -- where there is a row, the fronts are lists of rows
+  pub held_shaped : 1 ≤ length (held_rows n c d t) → Shaped (take n c) (take n d) (take n t)
+  held_shaped some = record {
+    some_row = omega (arith, some, held_rows_many, fronts);
+    no_25th = omega (arith, held, fronts);
+    as_many_deadlines = omega (arith, fronts);
+    as_many_periods = omega (arith, fronts);
+  }
 
   module _ (inside : n < 24) (execution deadline period : ℕ) where
     -- a row stored behind them is held too

@@ -1,5 +1,4 @@
 -- Laws of the records of a table, each at its place in the bytes, and of the rows held so far.
-pub mod Answers
 pub mod Bytes
 pub mod CoresThere
 pub mod CountThere

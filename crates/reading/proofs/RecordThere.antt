@@ -7,13 +7,13 @@ use native.Mathlib.Omega.{arith}
 use native.Mathlib.Numerals.{add-one}
 use lib.ListN.{length, get_or, drop, length-drop, drop_of_length-le}
 use borrow.Author.Tests.{le-leb, lt-leb, ne_eqb}
-use Rattle.answers.specs.declared.Answer.{Answer}
-use Rattle.answers.specs.declared.Answer.TheVariants.{RecordsBroken, RowsOutOfRange, RowBreaksLimits}
+use Rattle.std.specs.Prelude.{Result, Err}
+use Rattle.answers.specs.declared.Refusal.{Refusal}
+use Rattle.answers.specs.declared.Refusal.TheVariants.{RecordsBroken, RowsOutOfRange, RowBreaksLimits}
 use Rattle.theory.specs.Row.{Row, within_limits}
 use Rattle.records.specs.Number.{number_at}
 use Rattle.records.specs.Reading.{Reading, row_in, read_row, read_record, read_rows}
-use Rattle.reading.specs.declared.Next.TheVariants.{Ends}
-use Rattle.reading.specs.Next.{ended_with, IsCount, IsRow, IsNext}
+use Rattle.reading.specs.Next.{ended_with, IsCount, Ends, IsRow}
 use Rattle.reading.proofs.Bytes.{byte_and_rest, rest_from_place, number_from_place}
 
 -- a record that is no row is read alike, however many more rows there may be
@@ -26,18 +26,18 @@ module _ (cores : ℕ) (rows : List Row) (bytes : List ℕ) (end : Reading) wher
 -- a kind that is neither a row nor the count
 other_kind :
     (cores : ℕ) (rows : List Row) (kind : ℕ) (body : List ℕ) → (kind ≡ 4 → ⊥) → (kind ≡ 2 → ⊥) → (row : List ℕ → Reading)
-    → read_record cores rows row (kind ∷ body) ≡ ended_with RecordsBroken cores rows
-unfolding read_record ended_with
+    → read_record cores rows row (kind ∷ body) ≡ ended_with (Err RecordsBroken) cores rows
+unfolding read_record
 other_kind cores rows kind body no-count no_row row = rw (ne_eqb kind 2 no_row, read_record) (rw (ne_eqb kind 4 no-count))
 
 -- a kind 2 record by its body, where one more row is allowed
 module _ (left cores : ℕ) (rows : List Row) (body : List ℕ) where
-  body_cut : length body < 12 → read_rows (suc left) cores rows (2 ∷ body) ≡ ended_with RecordsBroken cores rows
-  unfolding read_rows read_record read_row ended_with
+  body_cut : length body < 12 → read_rows (suc left) cores rows (2 ∷ body) ≡ ended_with (Err RecordsBroken) cores rows
+  unfolding read_rows read_record read_row
   body_cut cut = rw (lt-leb 12 (length body) cut, read_row)
 
-  body_breaks : 12 ≤ length body → within_limits (row_in body) ≡ false → read_rows (suc left) cores rows (2 ∷ body) ≡ ended_with (RowBreaksLimits (suc (length rows))) cores rows
-  unfolding read_rows read_record read_row ended_with
+  body_breaks : 12 ≤ length body → within_limits (row_in body) ≡ false → read_rows (suc left) cores rows (2 ∷ body) ≡ ended_with (Err (RowBreaksLimits (suc (length rows)))) cores rows
+  unfolding read_rows read_record read_row
   body_breaks whole breaks = rw (le-leb 12 (length body) whole, read_row) (rw breaks)
 
   body_keeps : 12 ≤ length body → within_limits (row_in body) ≡ true
@@ -50,26 +50,26 @@ one_more : (n : ℕ) → n < 24 → 24 - n ≡ suc (24 - (n + 1))
 one_more n few = omega arith
 
 module _ (bytes : List ℕ) (at n : ℕ) where
-  pub none_there : length bytes ≤ at → IsNext bytes at n (Ends RecordsBroken)
-  unfolding read_record ended_with
+  pub none_there : length bytes ≤ at → Ends bytes at n (Err RecordsBroken)
+  unfolding read_record
   none_there past cores rows many = rw (drop_of_length-le bytes past) (however_many_left cores rows [] _ (λ row. refl) (24 - n))
 
   module _ (inside : at < length bytes) where
-    pub count_there : (answer : Answer) → get_or bytes at 0 ≡ 4 → IsCount bytes (at + 1) n answer → IsNext bytes at n (Ends answer)
+    pub count_there : (answer : Result (Unit {0}) Refusal) → get_or bytes at 0 ≡ 4 → IsCount bytes (at + 1) n answer → Ends bytes at n answer
     unfolding read_record
     count_there answer is-count says cores rows many =
         rw (byte_and_rest bytes at inside, is-count) (however_many_left cores rows _ _ (λ row. says cores rows many) (24 - n))
 
-    pub other_kind_there : (get_or bytes at 0 ≡ 4 → ⊥) → (get_or bytes at 0 ≡ 2 → ⊥) → IsNext bytes at n (Ends RecordsBroken)
+    pub other_kind_there : (get_or bytes at 0 ≡ 4 → ⊥) → (get_or bytes at 0 ≡ 2 → ⊥) → Ends bytes at n (Err RecordsBroken)
     other_kind_there no-count no_row cores rows many =
         rw (byte_and_rest bytes at inside) (however_many_left cores rows _ _ (other_kind cores rows _ _ no-count no_row) (24 - n))
 
     module _ (is_row : get_or bytes at 0 ≡ 2) where
-      pub row_25_there : n ≡ 24 → IsNext bytes at n (Ends RowsOutOfRange)
-      unfolding read_rows read_record ended_with
+      pub row_25_there : n ≡ 24 → Ends bytes at n (Err RowsOutOfRange)
+      unfolding read_rows read_record
       row_25_there full cores rows many = rw (byte_and_rest bytes at inside, is_row, full)
 
-      pub row_cut_there : n < 24 → length bytes < at + 13 → IsNext bytes at n (Ends RecordsBroken)
+      pub row_cut_there : n < 24 → length bytes < at + 13 → Ends bytes at n (Err RecordsBroken)
       row_cut_there few cut cores rows many =
           rw (byte_and_rest bytes at inside, is_row, one_more n few) (body_cut _ cores rows _ (omega (arith, length-drop (at + 1) bytes)))
 
@@ -96,7 +96,7 @@ module _ {bytes : List ℕ} {at n : ℕ} {row : Row} (there : WholeRow bytes at 
   body_whole : 12 ≤ length (drop (at + 1) bytes)
   body_whole = omega (arith, length-drop (at + 1) bytes)
 
-  pub broken_there : within_limits row ≡ false → IsNext bytes at n (Ends (RowBreaksLimits (n + 1)))
+  pub broken_there : within_limits row ≡ false → Ends bytes at n (Err (RowBreaksLimits (n + 1)))
   broken_there breaks cores rows many =
       rw (byte_and_rest bytes at (omega arith), there.is_row, one_more n there.few, add-one n, ← many)
       (body_breaks _ cores rows _ body_whole (ap within_limits row_there_lem ∙ breaks))

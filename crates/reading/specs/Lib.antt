@@ -1,3 +1,4 @@
 -- What is read, as the code holds it: the table, and one record on the way to it.
 pub mod Held
+pub mod Read
 pub mod Next

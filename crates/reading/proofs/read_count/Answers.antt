@@ -10,18 +10,17 @@ returns-then-at-bytes c = let args = c.args in count_cut args.bytes.now args.at 
 pub returns-then-n-eq0 : goal.returns-then-n-eq0
 returns-then-n-eq0 c = let args = c.args in count_without_rows args.bytes.now args.at args.n (omega arith) (omega arith)
 
-pub returns-then-as_number-n : goal.returns-then-as_number-n
-returns-then-as_number-n c =
+pub returns-then-from-n : goal.returns-then-from-n
+returns-then-from-n c =
     let args = c.args in
-    let same = c.as_number.ensures in
-    count_differs args.bytes.now args.at args.n (omega arith) (omega arith) (λ e. c.if-as_number-n.true (same ∙ e))
+    count_differs args.bytes.now args.at args.n (omega arith) (omega arith) (λ same. c.if-from-n.true (c.from.ensures ∙ same))
 
 pub returns-then-at-bytes-2 : goal.returns-then-at-bytes-2
 returns-then-at-bytes-2 c =
     let args = c.args in
-    count_and_more args.bytes.now args.at args.n (omega arith) (omega arith) (sym c.as_number.ensures ∙ c.if-as_number-n.false) (omega arith)
+    count_and_more args.bytes.now args.at args.n (omega arith) (omega arith) (sym c.from.ensures ∙ c.if-from-n.false) (omega arith)
 
 pub returns : goal.returns
 returns c =
     let args = c.args in
-    count_ends args.bytes.now args.at args.n (omega arith) (omega arith) (sym c.as_number.ensures ∙ c.if-as_number-n.false) (omega arith)
+    count_ends args.bytes.now args.at args.n (omega arith) (omega arith) (sym c.from.ensures ∙ c.if-from-n.false) (omega arith)

@@ -5,8 +5,8 @@ use lib.ListN.{length}
 use Rattle.reading.proofs.SoFar.{SoFar}
 use Rattle.reading.proofs.read_rows.Given as goal
 
-abbrev pub invariant-loop-execution : goal.invariant-loop-execution
-invariant-loop-execution l = SoFar l.bytes l.cores l.c l.d l.t l.n l.at
+abbrev pub invariant-loop-row : goal.invariant-loop-row
+invariant-loop-row l = SoFar l.bytes l.cores l.c l.d l.t l.n l.at
 
-abbrev pub decreases-loop-execution : goal.decreases-loop-execution
-decreases-loop-execution l = length l.bytes - l.at
+abbrev pub decreases-loop-row : goal.decreases-loop-row
+decreases-loop-row l = length l.bytes - l.at
