@@ -4,10 +4,12 @@
 
 ghost use Rattle.std.specs.Prelude.{◌≡◌, ◌+◌, ◌*◌, ◌≤◌, [], ◌∷◌, ◌++◌, length, take};
 ghost use Rattle.theory.specs.Lists.{Shaped, rows_of};
-ghost use Rattle.placement.specs.Figures.{figures_from};
+ghost use Rattle.rows.specs.Values.{row_of, figures_of, figures_in};
 ghost use Rattle.listing.specs.Listing.{decimal};
 ghost use Rattle.texts.specs.Text.{comma};
 ghost use Rattle.texts.specs.Columns.{certified_line, certified_lines, certified_text};
+
+use rows::{FigureLists, Figures, Row};
 
 const HEADER: [u8; 46] = *b"wcet,deadline,period,core,response,allowance\r\n";
 
@@ -29,21 +31,12 @@ fn write_fields(
 }
 
 // Writes the line of a row and its figures.
-fn write_line(
-    text: &mut [u8],
-    at: usize,
-    c: u32,
-    d: u32,
-    t: u32,
-    core: u32,
-    response: u32,
-    allowance: u32,
-) -> usize
+fn write_line(text: &mut [u8], at: usize, row: Row, figures: Figures) -> usize
     requires { at + 67 ≤ length text.old }
-    ensures { (take result text.new ≡ take at text.old ++ certified_line (record { C = c; D = d; T = t }) (record { core = core; response = response; allowance = allowance })) × (result ≤ at + 67) }
+    ensures { (take result text.new ≡ take at text.old ++ certified_line (row_of row) (figures_of figures)) × (result ≤ at + 67) }
 {
-    let end = write_fields(text, at, c, d, t, b',');
-    let end = write_fields(text, end, core, response, allowance, b'\r');
+    let end = write_fields(text, at, row.c, row.d, row.t, b',');
+    let end = write_fields(text, end, figures.core, figures.response, figures.allowance, b'\r');
     lines::write_bytes(text, end, b"\n")
 }
 
@@ -54,28 +47,20 @@ fn write_lines(
     c: &[u32],
     d: &[u32],
     t: &[u32],
-    core: &[u32],
-    response: &[u32],
-    allowance: &[u32],
+    figures: &FigureLists,
 ) -> usize
-    requires shaped { Shaped c.now d.now t.now × (length core.now ≡ length c.now) × (length response.now ≡ length c.now) × (length allowance.now ≡ length c.now) }
+    requires shaped { Shaped c.now d.now t.now × (length figures.now.core.now ≡ length c.now) }
     requires c_in_bounds { at + 67 * length c.now ≤ length text.old }
-    ensures { (take result text.new ≡ take at text.old ++ certified_lines (rows_of c.now d.now t.now) (figures_from core.now response.now allowance.now)) × (result ≤ at + 67 * length c.now) }
+    ensures { (take result text.new ≡ take at text.old ++ certified_lines (rows_of c.now d.now t.now) (figures_in figures.now)) × (result ≤ at + 67 * length c.now) }
 {
     let mut end = at;
-    let mut i = 0;
-    while i < c.len() {
-        end = write_line(
-            text,
-            end,
-            c[i],
-            d[i],
-            t[i],
-            core[i],
-            response[i],
-            allowance[i],
-        );
-        i += 1;
+    for i in 0..c.len() {
+        let row = Row {
+            c: c[i],
+            d: d[i],
+            t: t[i],
+        };
+        end = write_line(text, end, row, figures.figures_at(i));
     }
     end
 }
@@ -86,14 +71,12 @@ pub fn write_text(
     c: &[u32],
     d: &[u32],
     t: &[u32],
-    core: &[u32],
-    response: &[u32],
-    allowance: &[u32],
+    figures: &FigureLists,
 ) -> usize
-    requires shaped { Shaped c.now d.now t.now × (length core.now ≡ length c.now) × (length response.now ≡ length c.now) × (length allowance.now ≡ length c.now) }
+    requires shaped { Shaped c.now d.now t.now × (length figures.now.core.now ≡ length c.now) }
     requires in_bounds { 1654 ≤ length text.old }
-    ensures { (take result text.new ≡ certified_text (rows_of c.now d.now t.now) (figures_from core.now response.now allowance.now)) × (result ≤ 1654) }
+    ensures { (take result text.new ≡ certified_text (rows_of c.now d.now t.now) (figures_in figures.now)) × (result ≤ 1654) }
 {
     let end = lines::write_bytes(text, 0, &HEADER);
-    write_lines(text, end, c, d, t, core, response, allowance)
+    write_lines(text, end, c, d, t, figures)
 }

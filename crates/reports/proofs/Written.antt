@@ -3,8 +3,7 @@ use mathlib.Core.Path.{◌≡◌, refl, ap, ◌∙◌}
 use Prim.Native.Nat.{ℕ, ◌+◌, ◌≤◌}
 use mathlib.Core.List.{List, [], ◌∷◌, ◌++◌, append_assoc}
 use native.Mathlib.Omega.{arith}
-use lib.ListN.{length, set, length-append, length-set}
-use lib.Seq.{sets-eq}
+use lib.ListN.{length, length-append}
 use Rattle.theory.specs.Row.{Row}
 use Rattle.theory.specs.Lists.{filled}
 use Rattle.records.specs.Number.{four_bytes}
@@ -32,17 +31,19 @@ three_fill before p q r = rw (append_assoc p q r) (written_from_front before (p 
 
 -- a kind 2 byte and the three numbers behind it are a row's record
 pub row_record_written :
-    (before first second third : List ℕ) (at : ℕ) (row : Row)
+    (before kind first second third : List ℕ) (at : ℕ) (row : Row)
     → at + 13 ≤ length before
-    → first ≡ written (set before at 2) (at + 1) (four_bytes row.C)
+    → length kind ≡ length before
+    → kind ≡ written before at (2 ∷ [])
+    → first ≡ written kind (at + 1) (four_bytes row.C)
     → second ≡ written first (at + 5) (four_bytes row.D)
     → third ≡ written second (at + 9) (four_bytes row.T)
     → third ≡ written before at (row_record row)
 unfolding four_bytes
-row_record_written before first second third at row fits first_is second_is third-is =
+row_record_written before kind first second third at row fits long kind_is first_is second_is third-is =
     let numbers = four_bytes row.C ++ four_bytes row.D ++ four_bytes row.T in
-    three_written (set before at 2) first second third (at + 1) (at + 5) (at + 9)
+    three_written kind first second third (at + 1) (at + 5) (at + 9)
     (four_bytes row.C) (four_bytes row.D) (four_bytes row.T)
-    (omega (arith, length-set before at 2)) (omega arith) (omega arith) first_is second_is third-is
-    ∙ ap (λ (bytes : List ℕ). written bytes (at + 1) numbers) (sets-eq (2 ∷ []) before at (omega arith))
+    (omega arith) (omega arith) (omega arith) first_is second_is third-is
+    ∙ ap (λ (bytes : List ℕ). written bytes (at + 1) numbers) kind_is
     ∙ written_behind before at (2 ∷ []) numbers (at + 1) (omega arith) refl

@@ -1,7 +1,7 @@
 -- `write_text` meets its contract: the header, and the lines behind it.
 use native.Mathlib.Omega.{arith}
 use Rattle.theory.specs.Lists.{rows_of}
-use Rattle.placement.specs.Figures.{figures_from}
+use Rattle.rows.specs.Values.{figures_in}
 use Rattle.listing.specs.Listing.{ascii}
 use Rattle.texts.specs.Text.{names}
 use Rattle.texts.specs.Forms.{joined}
@@ -15,6 +15,6 @@ returns c =
     let args = c.args in
     let header = c.write_bytes-end.ensures in
     let rows = c.write_lines.ensures in (
-      text_written (rows_of args.c.now args.d.now args.t.now) (figures_from args.core.now args.response.now args.allowance.now) header.0 rows.0,
+      text_written (rows_of args.c.now args.d.now args.t.now) (figures_in args.figures.now) header.0 rows.0,
       omega (arith, c.requires, header.1, rows.1),
     )

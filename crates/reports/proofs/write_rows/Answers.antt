@@ -1,6 +1,5 @@
-use mathlib.Core.Path.{refl, ◌∙◌}
-use mathlib.Core.List.{[], flat_map}
 use native.Mathlib.Omega.{arith}
+use mathlib.Core.List.{[], flat_map}
 use lib.Seq.{paste-zero}
 use Rattle.records.specs.Number.{four_bytes}
 use Rattle.reports.proofs.FirstRows.{row_records_length, table_row_written, table_rows_written}
@@ -8,26 +7,15 @@ use Rattle.reports.proofs.write_rows.Goals as goal
 
 pub loop-i-init : goal.loop-i-init
 unfolding flat_map
-loop-i-init c = let args = c.args in (omega arith, refl, paste-zero args.bytes.now 2 [])
-
-pub write_row-requires : goal.write_row-requires
-write_row-requires c = omega (arith, c.loop-i.invariant.1)
+loop-i-init c = paste-zero c.args.bytes.now 2 []
 
 pub loop-i-preserved : goal.loop-i-preserved
 unfolding four_bytes
 loop-i-preserved c =
     let args = c.args in
     let pre = c.requires.d_len in
-    let so_far = c.loop-i.invariant in
-    let row = c.write_row in (
-      omega arith,
-      row.auto.bytes ∙ so_far.1,
-      table_row_written args.c.now args.d.now args.t.now pre.0 pre.1
-          args.bytes.now c.loop-i.bytes row.new.bytes 2 c.loop-i.i (omega arith) (omega arith) so_far.2 row.ensures,
-    )
-
-pub shape_of-bytes : goal.shape_of-bytes
-shape_of-bytes c = c.loop-i.invariant.1
+    let row = c.write_row in
+    table_row_written args.c.now args.d.now args.t.now pre.0 pre.1 args.bytes.now c.loop-i.bytes row.new.bytes 2 c.loop-i.i (omega arith) (omega arith) c.loop-i.invariant row.ensures
 
 pub returns : goal.returns
 returns c =
@@ -35,4 +23,4 @@ returns c =
     let pre = c.requires.d_len in
     let end = c.loop-i in
     rw (← row_records_length args.c.now args.d.now args.t.now pre.0 pre.1)
-    (table_rows_written args.c.now args.d.now args.t.now pre.0 pre.1 args.bytes.now end.bytes 2 end.i (omega arith) end.invariant.2)
+    (table_rows_written args.c.now args.d.now args.t.now pre.0 pre.1 args.bytes.now end.bytes 2 end.i (omega arith) end.invariant)

@@ -1,15 +1,11 @@
 -- `write_rows` meets its contract. The loop's invariant: from place 2 on stand the kind 2 records of the first i rows, the rest is as it was.
 use mathlib.Core.Path.{◌≡◌}
-use Prim.Native.Nat.{◌-◌, ◌≤◌}
 use mathlib.Core.List.{flat_map}
-use lib.ListN.{length, take}
+use lib.ListN.{take}
 use Rattle.theory.specs.Lists.{rows_of}
 use Rattle.records.specs.Report.{row_record}
 use Rattle.numbers.proofs.Written.{written}
 use Rattle.reports.proofs.write_rows.Given as goal
 
 abbrev pub invariant-loop-i : goal.invariant-loop-i
-invariant-loop-i l = (l.i ≤ length l.c) × (length l.bytes ≡ length l.initial.bytes) × (l.bytes ≡ written l.initial.bytes 2 (flat_map row_record (take l.i (rows_of l.c l.d l.t))))
-
-abbrev pub decreases-loop-i : goal.decreases-loop-i
-decreases-loop-i l = length l.c - l.i
+invariant-loop-i l = l.bytes ≡ written l.initial.bytes 2 (flat_map row_record (take l.i (rows_of l.c l.d l.t)))
