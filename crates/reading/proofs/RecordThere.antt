@@ -11,10 +11,9 @@ use Rattle.std.specs.Prelude.{Result, Err}
 use Rattle.answers.specs.declared.Refusal.{Refusal}
 use Rattle.answers.specs.declared.Refusal.TheVariants.{RecordsBroken, RowsOutOfRange, RowBreaksLimits}
 use Rattle.theory.specs.Row.{Row, within_limits}
-use Rattle.records.specs.Number.{number_at}
 use Rattle.records.specs.Reading.{Reading, row_in, read_row, read_record, read_rows}
 use Rattle.reading.specs.Next.{ended_with, IsCount, Ends, IsRow}
-use Rattle.reading.proofs.Bytes.{byte_and_rest, rest_from_place, number_from_place}
+use Rattle.reading.proofs.Bytes.{byte_and_rest, rest_from_place}
 
 -- a record that is no row is read alike, however many more rows there may be
 module _ (cores : ℕ) (rows : List Row) (bytes : List ℕ) (end : Reading) where
@@ -74,38 +73,27 @@ module _ (bytes : List ℕ) (at n : ℕ) where
           rw (byte_and_rest bytes at inside, is_row, one_more n few) (body_cut _ cores rows _ (omega (arith, length-drop (at + 1) bytes)))
 
 -- a whole kind 2 record at a place, where one more row is allowed
-pub record WholeRow (bytes : List ℕ) (at n : ℕ) (row : Row) : Type 0 where
-  pub is_row : get_or bytes at 0 ≡ 2
-  pub few : n < 24
-  pub whole : at + 13 ≤ length bytes
-  pub is_C : row.C ≡ number_at (at + 1) bytes
-  pub is_D : row.D ≡ number_at (at + 5) bytes
-  pub is_T : row.T ≡ number_at (at + 9) bytes
-
-module _ {bytes : List ℕ} {at n : ℕ} {row : Row} (there : WholeRow bytes at n row) where
-  -- its body is the row
-  row_there_lem : row_in (drop (at + 1) bytes) ≡ row
-  unfolding row_in
-  row_there_lem i = record {
-    C = (number_from_place bytes (at + 1) 0 (at + 1) (omega arith) ∙ sym there.is_C) i;
-    D = (number_from_place bytes (at + 1) 4 (at + 5) (omega arith) ∙ sym there.is_D) i;
-    T = (number_from_place bytes (at + 1) 8 (at + 9) (omega arith) ∙ sym there.is_T) i;
-  }
-
-  -- and is whole
+module _
+    (bytes : List ℕ)
+    (at n : ℕ)
+    (is_row : get_or bytes at 0 ≡ 2)
+    (few : n < 24)
+    (whole : at + 13 ≤ length bytes)
+    {row : Row}
+    (is_body : row ≡ row_in (drop (at + 1) bytes)) where
   body_whole : 12 ≤ length (drop (at + 1) bytes)
   body_whole = omega (arith, length-drop (at + 1) bytes)
 
   pub broken_there : within_limits row ≡ false → Ends bytes at n (Err (RowBreaksLimits (n + 1)))
   broken_there breaks cores rows many =
-      rw (byte_and_rest bytes at (omega arith), there.is_row, one_more n there.few, add-one n, ← many)
-      (body_breaks _ cores rows _ body_whole (ap within_limits row_there_lem ∙ breaks))
+      rw (byte_and_rest bytes at (omega arith), is_row, one_more n few, add-one n, ← many)
+      (body_breaks _ cores rows _ body_whole (ap within_limits (sym is_body) ∙ breaks))
 
   pub kept_there : within_limits row ≡ true → IsRow bytes at n row
   kept_there keeps = record {
-    no_25th_row = there.few;
-    whole = there.whole;
+    no_25th_row = few;
+    whole = whole;
     goes_on = λ cores rows many.
-        rw (byte_and_rest bytes at (omega arith), there.is_row, one_more n there.few, ← row_there_lem, ← rest_from_place bytes (at + 1) 12 (at + 13) (omega arith))
-        (body_keeps _ cores rows _ body_whole (ap within_limits row_there_lem ∙ keeps));
+        rw (byte_and_rest bytes at (omega arith), is_row, one_more n few, is_body, ← rest_from_place bytes (at + 1) 12 (at + 13) (omega arith))
+        (body_keeps _ cores rows _ body_whole (ap within_limits (sym is_body) ∙ keeps));
   }

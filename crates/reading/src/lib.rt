@@ -2,7 +2,8 @@
 #![tactic(auto)]
 
 ghost use Rattle.std.specs.Prelude.{◌≡◌, ◌+◌, ◌≤◌, ◌<◌, [], length, get_or, drop};
-ghost use Rattle.records.specs.Reading.{read_rows, read_table};
+ghost use Rattle.rows.specs.Values.{row_of};
+ghost use Rattle.records.specs.Reading.{row_in, read_rows, read_table};
 ghost use Rattle.reading.specs.Next.{IsCount, IsRowRead, IsNext};
 ghost use Rattle.reading.specs.Read.{IsRead};
 
@@ -34,6 +35,18 @@ fn read_count(bytes: &[u8], at: usize, n: usize) -> Answer
     Ok(())
 }
 
+// The row in the body of a kind 2 record.
+fn row_in(bytes: &[u8], at: usize) -> Row
+    requires { at + 12 ≤ length bytes.now }
+    ensures { row_of result ≡ row_in (drop at bytes.now) }
+{
+    Row {
+        c: numbers::number_at(bytes, at),
+        d: numbers::number_at(bytes, at + 4),
+        t: numbers::number_at(bytes, at + 8),
+    }
+}
+
 // The row of a kind 2 record, behind n rows.
 fn read_row(bytes: &[u8], at: usize, n: usize) -> Result<Row, Refusal>
     requires { (at < length bytes.now) × (get_or bytes.now at 0 ≡ 2) × (n ≤ 24) }
@@ -45,11 +58,7 @@ fn read_row(bytes: &[u8], at: usize, n: usize) -> Result<Row, Refusal>
     if bytes.len() < at + 13 {
         return Err(Refusal::RecordsBroken);
     }
-    let row = Row {
-        c: numbers::number_at(bytes, at + 1),
-        d: numbers::number_at(bytes, at + 5),
-        t: numbers::number_at(bytes, at + 9),
-    };
+    let row = row_in(bytes, at + 1);
     if !refusals::within_limits(row) {
         return Err(Refusal::RowBreaksLimits(n as u32 + 1));
     }
