@@ -12,7 +12,7 @@ use Rattle.theory.proofs.Tests.{equal_or_not}
 use Rattle.theory.proofs.Member.{length_insert}
 use Rattle.placement.specs.Core.{core_of, places_on, place_on_core}
 use Rattle.placement.proofs.PlacesOn.{places_none, places_at_most, places_in_table, places_on_core, place_on_core_at, places_fewer, places_joined, places_other}
-use Rattle.cores.specs.Cores.{held_places, HoldsCores}
+use Rattle.cores.specs.Cores.{held_places, HoldsCores, HeldWithout}
 
 -- at the start no core has a row
 pub held_none : (n : ℕ) (rows : List (List ℕ)) → length rows ≡ 8 → HoldsCores (replicate n 0) rows (replicate 8 0)
@@ -97,3 +97,21 @@ module _ {assignment : List ℕ} {rows : List (List ℕ)} {counts : List ℕ} (h
     pub held_put : (places array : List ℕ) → places ≡ held_places rows counts m → take (suc (length places)) array ≡ insert ltb i places
         → HoldsCores (set assignment i (suc m)) (set rows m array) (set counts m (get_or counts m 0 + 1))
     held_put places array same stored = held_after array (subst (λ (xs : List ℕ). take (suc (length xs)) array ≡ insert ltb i xs) same stored)
+
+-- of at most 24 rows with row i on no core, each core has room for row i, and its rows are in the table
+pub room_on_core :
+    {n i : ℕ} {rows : List (List ℕ)} {counts : List ℕ}
+    → HeldWithout n i rows counts
+    → i < n
+    → n ≤ 24
+    → (m : ℕ)
+    → m < 8
+    → (places : List ℕ)
+    → places ≡ held_places rows counts m
+    → (length places < 24) × All (λ h. h < n) places
+room_on_core {n} {i} {rows} {counts} without in_table no_25th m on_table places are =
+    let fewer = held_fewer without.holds m on_table i (omega (arith, without.one_each)) without.on_none in
+    subst (λ (xs : List ℕ). (length xs < 24) × All (λ h. h < n) xs) (sym are) (
+      omega (arith, held_count without.holds m on_table, fewer, without.one_each),
+      subst (λ (k : ℕ). All (λ h. h < k) (held_places rows counts m)) without.one_each (held_in_table without.holds m on_table),
+    )

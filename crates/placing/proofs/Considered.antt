@@ -1,13 +1,15 @@
 -- The choice among the first cores goes on by what the next core's fit says.
-use mathlib.Core.Path.{◌≡◌, refl, sym, subst, ◌∙◌}
+use mathlib.Core.Path.{◌≡◌, refl, sym, ap, subst, ◌∙◌}
 use Prim.Native.Nat.{ℕ, suc, ◌+◌, ◌<◌}
 use native.Mathlib.Numerals.{add-one}
 use mathlib.Core.List.{List, map}
+use Rattle.std.specs.Prelude.{Option}
 use lib.Dec.{ltb}
 use lib.ListN.{length}
 use Rattle.theory.specs.Row.{Row, row_at}
 use Rattle.theory.specs.Gather.{insert}
-use Rattle.theory.specs.Lists.{Shaped, rows_of}
+use Rattle.rows.specs.declared.Rows.{Rows}
+use Rattle.rows.specs.Values.{rows_in}
 use Rattle.theory.proofs.RowsOf.{rows_of_places}
 use Rattle.placement.specs.Core.{Table}
 use Rattle.placement.specs.Choice.{allowance_fit, joined}
@@ -17,15 +19,15 @@ use Rattle.cores.proofs.Gathered.{gathered_joined}
 use Rattle.fits.specs.declared.Fit.{Fit}
 use Rattle.fits.specs.declared.Fit.TheVariants.{Takes, Refuses}
 use Rattle.fits.specs.Fit.{IsFit}
-use Rattle.choices.specs.declared.Choice.{Choice}
+use Rattle.choices.specs.declared.Candidate.{Candidate}
 use Rattle.choices.specs.Among.{IsChoiceAmong}
 use Rattle.choices.proofs.Among.{among_next_taken, among_next_refused}
 use Rattle.placing.specs.Considered.{considered}
-use Rattle.placing.specs.Placed.{table_of}
+use Rattle.placing.specs.Placed.{table_in}
 
 -- with the next core considered, the choice is among one core more
 pub considered_next :
-    (table : Table) (assignment : List ℕ) (i m : ℕ) (choice next : Choice) (fit : Fit)
+    (table : Table) (assignment : List ℕ) (i m : ℕ) (choice next : Option Candidate) (fit : Fit)
     → m < table.cores
     → IsChoiceAmong allowance_fit table assignment i m choice
     → IsFit (joined table assignment i (suc m)) fit
@@ -41,13 +43,17 @@ considered_next table assignment i m choice next fit on_table among fits is-next
 
 -- the rows at the places held for core m + 1, with row i among them, are that core's rows with row i
 pub held_fit :
-    (cores : ℕ) (cs ds ts : List ℕ) (shaped : Shaped cs ds ts) (i m : ℕ) (rows : List (List ℕ)) (counts : List ℕ) (fit : Fit)
+    (cores : ℕ) (rows : Rows) (i m : ℕ) (lists : List (List ℕ)) (counts : List ℕ) (fit : Fit)
     → m < 8
-    → i < length cs
-    → (held : HeldWithout (length cs) i rows counts)
-    → IsFit (map (row_at (rows_of cs ds ts)) (insert ltb i (held_places rows counts m))) fit
-    → IsFit (joined (table_of cores cs ds ts) held.assignment i (suc m)) fit
-held_fit cores cs ds ts shaped i m rows counts fit on_table in_table held =
+    → i < length rows.c.now
+    → (without : HeldWithout (length rows.c.now) i lists counts)
+    → (places : List ℕ)
+    → places ≡ held_places lists counts m
+    → IsFit (map (row_at (rows_in rows)) (insert ltb i places)) fit
+    → IsFit (joined (table_in cores rows) without.assignment i (suc m)) fit
+held_fit cores rows i m lists counts fit on_table in_table without places are =
     subst (λ (set : List Row). IsFit set fit)
-    (sym (rows_of_places cs ds ts shaped.as_many_deadlines shaped.as_many_periods (insert ltb i (held_places rows counts m)))
-    ∙ gathered_joined cs ds ts shaped.as_many_deadlines shaped.as_many_periods (table_of cores cs ds ts) refl held.holds m on_table i (subst (λ (n : ℕ). i < n) (sym held.one_each) in_table) held.on_none held.one_each)
+    (ap (λ (xs : List ℕ). map (row_at (rows_in rows)) (insert ltb i xs)) are
+    ∙ sym (rows_of_places rows.c.now rows.d.now rows.t.now rows.shaped.as_many_deadlines rows.shaped.as_many_periods (insert ltb i (held_places lists counts m)))
+    ∙ gathered_joined rows.c.now rows.d.now rows.t.now rows.shaped.as_many_deadlines rows.shaped.as_many_periods (table_in cores rows) refl without.holds m on_table i
+    (subst (λ (n : ℕ). i < n) (sym without.one_each) in_table) without.on_none without.one_each)

@@ -20,34 +20,34 @@ inside-as-long cs numbers places same inside = all_map places (λ h l. omega (ar
 front_length : (array places : List ℕ) → length array ≡ 24 → length places ≤ 24 → length places ≡ length (take (length places) array)
 front_length array places long few = sym (length-take-le (length places) array (omega arith))
 
-pub gather-ds-requires : goal.gather-ds-requires
-gather-ds-requires c =
+pub gather-d-requires : goal.gather-d-requires
+gather-d-requires c =
     record {
-      places_len_bound = c.requires.in_bounds.1;
-      all = inside-as-long c.args.c.now c.args.d.now c.args.places.now c.requires.shaped.0.as_many_deadlines c.requires.in_bounds.2;
+      places_len_bound = c.requires.1;
+      all = inside-as-long c.args.rows.now.c.now c.args.rows.now.d.now c.args.places.now c.args.rows.now.shaped.as_many_deadlines c.requires.2;
     }
 
-pub gather-ts-requires : goal.gather-ts-requires
-gather-ts-requires c =
+pub gather-t-requires : goal.gather-t-requires
+gather-t-requires c =
     record {
-      places_len_bound = c.requires.in_bounds.1;
-      all = inside-as-long c.args.c.now c.args.t.now c.args.places.now c.requires.shaped.0.as_many_periods c.requires.in_bounds.2;
+      places_len_bound = c.requires.1;
+      all = inside-as-long c.args.rows.now.c.now c.args.rows.now.t.now c.args.places.now c.args.rows.now.shaped.as_many_periods c.requires.2;
     }
 
 pub slice_bounds-fit_of-end : goal.slice_bounds-fit_of-end
-slice_bounds-fit_of-end c = front_length c.gather-cs.result c.args.places.now c.gather-cs.ensures.result_len c.requires.in_bounds.1
+slice_bounds-fit_of-end c = front_length c.gather-c.result c.args.places.now c.gather-c.ensures.result_len c.requires.1
 
 pub slice_bounds-fit_of-end-2 : goal.slice_bounds-fit_of-end-2
-slice_bounds-fit_of-end-2 c = front_length c.gather-ds.result c.args.places.now c.gather-ds.ensures.result_len c.requires.in_bounds.1
+slice_bounds-fit_of-end-2 c = front_length c.gather-d.result c.args.places.now c.gather-d.ensures.result_len c.requires.1
 
 pub slice_bounds-fit_of-end-3 : goal.slice_bounds-fit_of-end-3
-slice_bounds-fit_of-end-3 c = front_length c.gather-ts.result c.args.places.now c.gather-ts.ensures.result_len c.requires.in_bounds.1
+slice_bounds-fit_of-end-3 c = front_length c.gather-t.result c.args.places.now c.gather-t.ensures.result_len c.requires.1
 
 pub fit_of-requires : goal.fit_of-requires
 fit_of-requires c =
-    let gathered = gathered_rows c.args.c.now c.args.d.now c.args.t.now c.args.places.now _ _ _ _ c.requires.shaped.0 c.requires.shaped.1 c.requires.in_bounds.0 c.requires.in_bounds.1 c.requires.in_bounds.2 refl c.gather-cs.ensures.result_value c.gather-ds.ensures.result_value c.gather-ts.ensures.result_value in (gathered.shaped, gathered.within)
+    let gathered = gathered_rows c.args.rows.now.c.now c.args.rows.now.d.now c.args.rows.now.t.now c.args.places.now _ _ _ _ c.args.rows.now.shaped c.args.rows.now.within c.requires.0 c.requires.1 c.requires.2 refl c.gather-c.ensures.result_value c.gather-d.ensures.result_value c.gather-t.ensures.result_value in (gathered.shaped, gathered.within)
 
 pub returns : goal.returns
 returns c =
-    let gathered = gathered_rows c.args.c.now c.args.d.now c.args.t.now c.args.places.now _ _ _ _ c.requires.shaped.0 c.requires.shaped.1 c.requires.in_bounds.0 c.requires.in_bounds.1 c.requires.in_bounds.2 refl c.gather-cs.ensures.result_value c.gather-ds.ensures.result_value c.gather-ts.ensures.result_value in
+    let gathered = gathered_rows c.args.rows.now.c.now c.args.rows.now.d.now c.args.rows.now.t.now c.args.places.now _ _ _ _ c.args.rows.now.shaped c.args.rows.now.within c.requires.0 c.requires.1 c.requires.2 refl c.gather-c.ensures.result_value c.gather-d.ensures.result_value c.gather-t.ensures.result_value in
     subst (λ (rows : List Row). IsFit rows c.fit_of.result) gathered.are_rows c.fit_of.ensures
