@@ -5,7 +5,7 @@ use mathlib.Core.Bool.{true, false}
 use mathlib.Core.List.{List}
 use native.Mathlib.Omega.{arith}
 use lib.ListN.{length, get_or}
-use Rattle.std.proofs.Common.{Err}
+use Rattle.std.proofs.Common.{Err, Option, Some, None, MatchOption}
 use Rattle.answers.specs.declared.Refusal.TheVariants.{RowBreaksLimits}
 use Rattle.theory.specs.Row.{Row, row_at, within_limits, WithinLimits, AllWithin, FirstBroken}
 use Rattle.theory.specs.Lists.{rows_of, Shaped}
@@ -54,3 +54,11 @@ module _ (cs ds ts : List ℕ) (shaped : Shaped cs ds ts) where
   pub by_number : {responses allowances number k : ℕ} → FirstBroken (rows_of cs ds ts) k → number ≡ suc k
       → Checked cs ds ts responses allowances (Err (RowBreaksLimits number))
   by_number first its_number = rw its_number (row_breaks_limits _ shaped first)
+
+  -- what a search from the front finds
+  pub first_found : (found : Option ℕ)
+      → MatchOption found ((k : ℕ) → 0 ≤ k → k < length cs → WithinLimits (row_at (rows_of cs ds ts) k))
+      (λ i. (0 ≤ i) × (i < length cs) × (WithinLimits (row_at (rows_of cs ds ts) i) → ⊥) × ((k : ℕ) → 0 ≤ k → k < i → WithinLimits (row_at (rows_of cs ds ts) k)))
+      → MatchOption found (AllWithin (rows_of cs ds ts)) (FirstBroken (rows_of cs ds ts))
+  first_found None each = λ k inside. each k (omega arith) (omega (arith, as_many_rows))
+  first_found (Some i) (from_0, inside, breaks, earlier) = broken_at i inside (λ h before. earlier h (omega arith) before) breaks

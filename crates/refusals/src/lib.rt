@@ -1,7 +1,7 @@
 // The checks of lists before any climb: refusals 3, 4 and 7 of document 01, in this order.
 #![tactic(auto)]
 
-ghost use Rattle.std.specs.Prelude.{◌≡◌, MatchOption};
+ghost use Rattle.std.specs.Prelude.{◌≡◌, ◌<◌, length, get_or, MatchOption};
 ghost use Rattle.theory.specs.Row.{within_limits, AllWithin, FirstBroken};
 ghost use Rattle.theory.specs.Lists.{Shaped, rows_of};
 ghost use Rattle.rows.specs.Values.{row_of};
@@ -17,22 +17,24 @@ pub fn within_limits(row: Row) -> bool
     1 <= row.c && row.c <= row.d && row.d <= row.t && row.t <= 1_000_000
 }
 
+// The row that stands at a place of three lists.
+fn row_at(c: &[u32], d: &[u32], t: &[u32], k: usize) -> Row
+    requires { (k < length c.now) × (k < length d.now) × (k < length t.now) }
+    ensures { row_of result ≡ record { C = get_or c.now k 0; D = get_or d.now k 0; T = get_or t.now k 0 } }
+{
+    Row {
+        c: c[k],
+        d: d[k],
+        t: t[k],
+    }
+}
+
 // The place of the first row that breaks the limits.
 pub fn first_broken(c: &[u32], d: &[u32], t: &[u32]) -> Option<usize>
     requires { Shaped c.now d.now t.now }
     ensures { MatchOption result (AllWithin (rows_of c.now d.now t.now)) (FirstBroken (rows_of c.now d.now t.now)) }
 {
-    for k in 0..c.len() {
-        let row = Row {
-            c: c[k],
-            d: d[k],
-            t: t[k],
-        };
-        if !within_limits(row) {
-            return Some(k);
-        }
-    }
-    None
+    (0..c.len()).find(|&k| !within_limits(row_at(c, d, t, k)))
 }
 
 // The lists as rows within the limits, with room for the answers of each; or their refusal before any climb.

@@ -1,17 +1,20 @@
-use mathlib.Core.Path.{sym, ◌∙◌}
-use native.Mathlib.Omega.{arith}
-use borrow.Author.Count.{below_more}
-use Rattle.refusals.proofs.Rows.{passing_row, failing_row, broken_at, all_within}
+-- `refusals::first_broken` meets its contract: the first place whose row does not keep the limits.
+use mathlib.Core.Path.{◌≡◌}
+use mathlib.Core.Bool.{true, false}
+use borrow.Author.Rules.{rules}
+use lib.ListN.{get_or}
+use Rattle.std.proofs.lemmas.Iterator.{first_from_Range}
+use Rattle.theory.specs.Row.{row_at, within_limits, WithinLimits}
+use Rattle.theory.specs.Lists.{rows_of}
+use Rattle.refusals.proofs.Rows.{passing_row, failing_row, first_found}
 use Rattle.refusals.proofs.first_broken.Goals as goal
 
-pub returns-then-not-within_limits : goal.returns-then-not-within_limits
-returns-then-not-within_limits c =
-    broken_at c.args.c.now c.args.d.now c.args.t.now c.requires c.loop-k.k (omega arith) c.loop-k.invariant
-    (failing_row c.args.c.now c.args.d.now c.args.t.now c.requires c.loop-k.k (sym c.within_limits.ensures ∙ c.if-not-within_limits.true))
-
-pub loop-k-preserved : goal.loop-k-preserved
-loop-k-preserved c =
-    below_more _ _ c.loop-k.invariant (passing_row c.args.c.now c.args.d.now c.args.t.now c.requires c.loop-k.k (sym c.within_limits.ensures ∙ c.if-not-within_limits.false))
-
 pub returns : goal.returns
-returns c = all_within c.args.c.now c.args.d.now c.args.t.now c.requires c.loop-k.k (omega arith) c.loop-k.invariant
+returns c =
+    let cs = c.args.c.now in
+    let ds = c.args.d.now in
+    let ts = c.args.t.now in
+    first_found cs ds ts c.requires c.find.result
+    (first_from_Range _ _ _ c.find.result (λ k. WithinLimits (row_at (rows_of cs ds ts) k) → ⊥) (λ k. WithinLimits (row_at (rows_of cs ds ts) k)) c.find.ensures.ran
+    (λ x q called. let fails : within_limits (record { C = get_or cs x 0; D = get_or ds x 0; T = get_or ts x 0 }) ≡ false = search rules in failing_row cs ds ts c.requires x fails)
+    (λ x q called. let passes : within_limits (record { C = get_or cs x 0; D = get_or ds x 0; T = get_or ts x 0 }) ≡ true = search rules in (search rules, passing_row cs ds ts c.requires x passes)))
