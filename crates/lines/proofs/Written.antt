@@ -1,22 +1,14 @@
--- Bytes written behind those that stand at the front of a text, and what such writes come to, one behind another.
-use mathlib.Core.Path.{◌≡◌, ap, ◌∙◌}
+-- What writes come to, one behind another.
+use mathlib.Core.Path.{◌≡◌}
 use Prim.Native.Nat.{ℕ, ◌+◌, ◌^◌, ◌≤◌, ◌<◌}
 use native.Mathlib.Omega.{arith}
 use mathlib.Core.List.{List, [], ◌∷◌, ◌++◌, append_assoc, append-nil}
-use lib.ListN.{length, get_or, take, drop, length-append}
-use lib.Seq.{take_at, length-take-le}
+use lib.ListN.{length, get_or}
 use Rattle.std.specs.Fmt.{decimal as of_library}
 use Rattle.placement.specs.Figures.{Figures}
 use Rattle.listing.specs.Listing.{ascii, header_line, decimal, row_line, row_lines, system_allowance, listing, refusal}
 use Rattle.listing.proofs.Decimal.{decimal_same}
 use Rattle.listing.proofs.RowLines.{lines_from, lines_from_row, no_lines_left}
-
--- a part put in behind the first `at` bytes
-pub part_written : (text part : List ℕ) (at : ℕ) {after : List ℕ} → at + length part ≤ length text → after ≡ take at text ++ part ++ drop (at + length part) text
-    → take (at + length part) after ≡ take at text ++ part
-part_written text part at room put =
-    ap (take (at + length part)) put
-    ∙ take_at (take at text ++ part) (drop (at + length part) text) (at + length part) (omega (arith, length-append (take at text) part, length-take-le at text (omega arith)))
 
 -- digits as the library has them, and one byte behind them
 pub number_written : {one two : List ℕ} (front : List ℕ) (n behind : ℕ) → n < 2 ^ 32 → one ≡ front ++ of_library n → two ≡ one ++ (behind ∷ []) → two ≡ front ++ (decimal n ++ (behind ∷ []))
@@ -34,24 +26,24 @@ module _ {one two three four : List ℕ} where
   row_written front number figures w x y z = simp (z, y, x, w, append_assoc)
 
   -- the listing
-  pub listing_written : (all : List Figures)
-      → one ≡ header_line
+  pub listing_written : (front : List ℕ) (all : List Figures)
+      → one ≡ front ++ header_line
       → two ≡ one ++ row_lines 1 all
       → three ≡ two ++ ascii "system "
       → four ≡ three ++ (decimal (system_allowance all) ++ (10 ∷ []))
-      → four ≡ listing all
+      → four ≡ front ++ listing all
   unfolding listing
-  listing_written all w x y z = simp (z, y, x, w, append_assoc)
+  listing_written front all w x y z = simp (z, y, x, w, append_assoc)
 
   -- the line of a refusal
-  pub refusal_written : (number row : ℕ)
-      → one ≡ ascii "refused "
+  pub refusal_written : (front : List ℕ) (number row : ℕ)
+      → one ≡ front ++ ascii "refused "
       → two ≡ one ++ (decimal number ++ (32 ∷ []))
       → three ≡ two ++ ascii "row "
       → four ≡ three ++ (decimal row ++ (10 ∷ []))
-      → four ≡ refusal number row
+      → four ≡ front ++ refusal number row
   unfolding refusal ascii
-  refusal_written number row w x y z = simp (z, y, x, w, append_assoc)
+  refusal_written front number row w x y z = simp (z, y, x, w, append_assoc)
 
 -- where lines stand written and a line and more are left of the whole, the line written leaves the rest
 pub one_line_more : (front line rest : List ℕ) {whole next : List ℕ} → front ++ (line ++ rest) ≡ whole → next ≡ front ++ line → next ++ rest ≡ whole

@@ -1,24 +1,20 @@
 use native.Mathlib.Omega.{arith}
-use lib.ListN.{take}
 use Rattle.columns.proofs.Written.{one_row_more, rows_written}
 use Rattle.columns.proofs.write_lines.Goals as goal
 
 pub loop-i-preserved : goal.loop-i-preserved
-loop-i-preserved c =
+loop-i-preserved g c =
     let args = c.args in
     let figures = args.figures.now in
     let head = c.loop-i in
-    let line = c.write_line-end.ensures in (
-      omega (arith, line.1, head.invariant.0),
-      one_row_more args.c.now args.d.now args.t.now figures.core.now figures.response.now figures.allowance.now (take head.end head.text) head.i head.invariant.1
-          (omega arith) (omega arith) (omega arith) (omega arith) (omega arith) (omega arith) (rw c.figures_at.ensures at line.0),
+    let line = c.write_line.ensures in (
+      omega (arith, line.length, head.invariant.0),
+      one_row_more args.c.now args.d.now args.t.now figures.core.now figures.response.now figures.allowance.now head.text.items head.i head.invariant.1
+          (omega arith) (omega arith) (omega arith) (omega arith) (omega arith) (omega arith) (rw c.figures_at.ensures at line.value),
     )
 
-pub returns : goal.returns
-returns c =
+pub returns-clause-value : goal.returns-clause-value
+returns-clause-value g c =
     let args = c.args in
     let figures = args.figures.now in
-    let head = c.loop-i in (
-      rows_written args.c.now args.d.now args.t.now figures.core.now figures.response.now figures.allowance.now (take head.end head.text) head.i head.invariant.1 (omega arith),
-      omega (arith, head.invariant.0),
-    )
+    rows_written args.c.now args.d.now args.t.now figures.core.now figures.response.now figures.allowance.now c.loop-i.text.items c.loop-i.i c.loop-i.invariant.1 (omega arith)

@@ -2,7 +2,7 @@
 use mathlib.Core.Path.{◌≡◌}
 use Prim.Native.Nat.{◌+◌, ◌*◌, ◌≤◌}
 use mathlib.Core.List.{◌++◌}
-use lib.ListN.{take}
+use Rattle.arrayvec.specs.ArrayVec.{array_vec_len}
 use Rattle.theory.specs.Lists.{rows_of}
 use Rattle.rows.specs.Values.{figures_in}
 use Rattle.texts.specs.Columns.{certified_lines}
@@ -10,6 +10,6 @@ use Rattle.columns.proofs.CertifiedLines.{certified_lines_from}
 use Rattle.columns.proofs.write_lines.Given as goal
 
 abbrev pub invariant-loop-i : goal.invariant-loop-i
-invariant-loop-i l =
-    (l.end ≤ l.at + 67 * l.i)
-    × (take l.end l.text ++ certified_lines_from l.c l.d l.t l.figures.core.now l.figures.response.now l.figures.allowance.now l.i ≡ take l.at l.initial.text ++ certified_lines (rows_of l.c l.d l.t) (figures_in l.figures))
+invariant-loop-i g l =
+    (array_vec_len l.text ≤ array_vec_len l.initial.text + 67 * l.i)
+    × (l.text.items ++ certified_lines_from l.c l.d l.t l.figures.core.now l.figures.response.now l.figures.allowance.now l.i ≡ l.initial.text.items ++ certified_lines (rows_of l.c l.d l.t) (figures_in l.figures))

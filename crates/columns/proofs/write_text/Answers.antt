@@ -1,5 +1,4 @@
 -- `write_text` meets its contract: the header, and the lines behind it.
-use native.Mathlib.Omega.{arith}
 use Rattle.theory.specs.Lists.{rows_of}
 use Rattle.rows.specs.Values.{figures_in}
 use Rattle.listing.specs.Listing.{ascii}
@@ -9,12 +8,8 @@ use Rattle.texts.specs.Columns.{line_of, all_names}
 use Rattle.columns.proofs.Written.{text_written}
 use Rattle.columns.proofs.write_text.Goals as goal
 
-pub returns : goal.returns
+pub returns-clause-value : goal.returns-clause-value
 unfolding joined line_of all_names names ascii
-returns c =
+returns-clause-value g c =
     let args = c.args in
-    let header = c.write_bytes-end.ensures in
-    let rows = c.write_lines.ensures in (
-      text_written (rows_of args.c.now args.d.now args.t.now) (figures_in args.figures.now) header.0 rows.0,
-      omega (arith, c.requires, header.1, rows.1),
-    )
+    text_written args.text.now.items (rows_of args.c.now args.d.now args.t.now) (figures_in args.figures.now) c.write_bytes.ensures c.write_lines.ensures.value
