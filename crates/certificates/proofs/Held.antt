@@ -5,9 +5,8 @@ use mathlib.Core.List.{List, [], ◌∷◌, ◌++◌}
 use native.Mathlib.Omega.{arith}
 use lib.ListN.{length, take, drop, replicate, length-replicate, length-append, length-drop}
 use lib.Seq.{take_at}
-use Rattle.answers.specs.declared.Answer.{Answer}
-use Rattle.answers.specs.declared.Answer.TheVariants.{Accepted}
-use Rattle.answers.specs.Answer.{number_of}
+use Rattle.std.specs.Prelude.{Result, Ok, Err}
+use Rattle.answers.specs.declared.Refusal.{Refusal}
 use Rattle.placement.specs.Core.{Table}
 use Rattle.placement.specs.Choice.{allowance_fit}
 use Rattle.placement.specs.Placement.{Moment}
@@ -17,8 +16,7 @@ use Rattle.placement.proofs.FiguresFrom.{figures_from_length, figures_from_at}
 use Rattle.cores.specs.Cores.{HoldsCores}
 use Rattle.placing.specs.Placed.{IsPlaced, placed, stopped}
 use Rattle.figures.specs.Placed.{PlacedRows, HasFigures}
-use Rattle.certificates.specs.declared.Certificate.{Certificate}
-use Rattle.certificates.specs.Held.{IsHeld, certified, none_takes}
+use Rattle.certificates.specs.Held.{IsHeld}
 
 -- zeros at the front of zeros
 pub take_zeros : (n m : ℕ) → n ≤ m → take n (replicate {A = ℕ} m 0) ≡ replicate n 0
@@ -28,15 +26,15 @@ take_zeros (suc n) (suc m) h = ap (λ (zeros : List ℕ). 0 ∷ zeros) (take_zer
 
 module _ {table : Table} {assignment : List ℕ} {rows : List (List ℕ)} {counts : List ℕ} where
   -- a placement that is refused is the certificate that no core takes a row
-  pub refused_held : {answer : Answer} → IsPlaced allowance_fit table assignment rows counts answer → (number_of answer ≡ 0 → ⊥) → (certificate : Certificate) → certificate.answer ≡ answer → IsHeld table certificate
-  refused_held (placed moment holds) refused certificate same = absurd (refused refl)
-  refused_held (stopped i stop) refused certificate same = none_takes i same stop
+  pub refused_held : {answer : Result (Unit {0}) Refusal} {refusal : Refusal} → IsPlaced allowance_fit table assignment rows counts answer → answer ≡ Err refusal → IsHeld table (Err refusal)
+  refused_held (placed moment holds) refused = cc refused
+  refused_held (stopped i stop) refused = (i, cc refused, stop)
 
   -- one that is not has every row placed
-  pub accepted_placed : {answer : Answer} → IsPlaced allowance_fit table assignment rows counts answer → number_of answer ≡ 0
-      → (answer ≡ Accepted) × Moment allowance_fit table assignment [] × HoldsCores assignment rows counts
-  accepted_placed (placed moment holds) none = (refl, moment, holds)
-  accepted_placed (stopped i stop) none = absurd (omega arith)
+  pub accepted_placed : {answer : Result (Unit {0}) Refusal} → IsPlaced allowance_fit table assignment rows counts answer → answer ≡ Ok tt
+      → Moment allowance_fit table assignment [] × HoldsCores assignment rows counts
+  accepted_placed (placed moment holds) accepted = (moment, holds)
+  accepted_placed (stopped i stop) accepted = cc accepted
 
   module _ (few : table.cores ≤ 8) (moment : Moment allowance_fit table assignment []) where
     -- then every row is on a core, and every core's rows meet
@@ -81,21 +79,17 @@ pub with_zeros_long : (front : List ℕ) (n : ℕ) → length front ≡ n → n 
 with_zeros_long front n same few =
     length-append front (drop n (replicate 24 0)) ∙ omega (arith, length-drop n (replicate {A = ℕ} 24 0), length-replicate {A = ℕ} 24 0)
 
--- three such arrays hold the certificate
-pub arrays_held :
-    (table : Table) (assignment responses allowances : List ℕ) (n : ℕ) (answer : Answer)
+-- three such arrays have the figures at their fronts
+pub fronts_certified :
+    (table : Table) (assignment responses allowances : List ℕ) (n : ℕ)
     → n ≡ length table.rows
-    → n ≤ 24
     → length responses ≡ n
     → length allowances ≡ n
-    → answer ≡ Accepted
     → Moment allowance_fit table assignment []
     → ((i : ℕ) → i < length table.rows → HasFigures table.rows assignment responses allowances i)
-    → IsHeld table (record { answer = answer; core = with_zeros assignment n; response = with_zeros responses n; allowance = with_zeros allowances n })
-arrays_held table assignment responses allowances n answer many few r a accepted moment has =
-    certified accepted
-    (rw (sym many, front assignment c, front responses r, front allowances a) (placed_certified table assignment responses allowances (r ∙ many) (a ∙ many) moment has))
-    (record { core_long = with_zeros_long assignment n c few; response_long = with_zeros_long responses n r few; allowance_long = with_zeros_long allowances n a few })
+    → Certified allowance_fit table (figures_from (take n (with_zeros assignment n)) (take n (with_zeros responses n)) (take n (with_zeros allowances n)))
+fronts_certified table assignment responses allowances n many r a moment has =
+    rw (front assignment c, front responses r, front allowances a) (placed_certified table assignment responses allowances (r ∙ many) (a ∙ many) moment has)
   where
     c : length assignment ≡ n
     c = (underway allowance_fit table moment).one_each ∙ sym many
