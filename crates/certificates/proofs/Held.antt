@@ -3,7 +3,7 @@ use mathlib.Core.Path.{◌≡◌, refl, sym, ap, subst, ◌∙◌}
 use Prim.Native.Nat.{ℕ, zero, suc, ◌≤◌, ◌<◌}
 use mathlib.Core.List.{List, [], ◌∷◌, ◌++◌}
 use native.Mathlib.Omega.{arith}
-use lib.ListN.{length, take, drop, replicate, length-replicate, length-append, length-drop}
+use lib.ListN.{length, take, drop, replicate}
 use lib.Seq.{take_at}
 use Rattle.std.specs.Prelude.{Result, Ok, Err}
 use Rattle.answers.specs.declared.Refusal.{Refusal}
@@ -74,10 +74,6 @@ placed_certified table assignment responses allowances r a moment has =
 -- entries at the front of 24 zeros
 abbrev pub with_zeros : List ℕ → ℕ → List ℕ
 with_zeros front n = front ++ drop n (replicate 24 0)
-
-pub with_zeros_long : (front : List ℕ) (n : ℕ) → length front ≡ n → n ≤ 24 → length (with_zeros front n) ≡ 24
-with_zeros_long front n same few =
-    length-append front (drop n (replicate 24 0)) ∙ omega (arith, length-drop n (replicate {A = ℕ} 24 0), length-replicate {A = ℕ} 24 0)
 
 -- three such arrays have the figures at their fronts
 pub fronts_certified :
