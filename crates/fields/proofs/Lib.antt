@@ -1,5 +1,4 @@
 -- Proofs of what the code finds.
-pub mod Begins
 pub mod Separators
 pub mod Contents
 pub mod SoFar

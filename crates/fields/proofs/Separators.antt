@@ -1,68 +1,59 @@
 -- What stands behind a field: a comma, a line's end, or neither.
 use mathlib.Core.Path.{◌≡◌, refl, ap, ◌∙◌}
-use Prim.Native.Nat.{ℕ, ◌+◌, ◌≤◌}
+use Prim.Native.Nat.{ℕ}
 use native.Mathlib.Omega.{arith}
 use mathlib.Core.Bool.{Bool, true, false}
 use mathlib.Core.List.{List, [], ◌∷◌}
+use denote.Ref.{Bor}
 use lib.Dec.{eqb}
-use lib.ListN.{length, drop, length-drop, drop_of_length-le}
+use lib.ListN.{length}
 use borrow.Author.Tests.{eqb-true}
+use Rattle.std.specs.Prelude.{Option, Some, None, MatchOption, option_copied}
 use Rattle.texts.specs.Text.{LF, CR, comma, begins_with}
 use Rattle.texts.specs.Rest.{lines_behind, rest_of_field, fields_behind}
 use Rattle.texts.proofs.Lines.{lines_stay_behind, comma_ends_field, fields_behind_comma, no_comma_no_fields, line_not_ended, LineEnds, text_ends, LF_ends, CR_LF_ends}
-use Rattle.fields.specs.Found.{comma_behind, line_end_behind, Between}
-use Rattle.fields.proofs.Begins.{stands_there, rest, rest_is}
+use Rattle.fields.specs.Found.{comma_behind, line_end_behind, Between, IsBetween}
 
--- a text that does not go on with LF does not begin with it
-LF_not_next : (text : List ℕ) → ((behind : List ℕ) → text ≡ LF ∷ behind → ⊥) → begins_with LF text ≡ false
-LF_not_next [] none = refl
-LF_not_next (byte ∷ others) none = go (eqb byte LF) refl
+-- a text that does not go on behind a byte does not begin with it
+not_begun : (byte : ℕ) (text : List ℕ) → ((rest : List ℕ) → text ≡ byte ∷ rest → ⊥) → begins_with byte text ≡ false
+not_begun byte [] none = refl
+not_begun byte (first ∷ others) none = go (eqb first byte) refl
   where
-    go : (same : Bool) → eqb byte LF ≡ same → same ≡ false
-    go true same = absurd (none others (ap (λ b. b ∷ others) (eqb-true byte LF same)))
+    go : (same : Bool) → eqb first byte ≡ same → same ≡ false
+    go true same = absurd (none others (ap (λ b. b ∷ others) (eqb-true first byte same)))
     go false same = refl
 
-module _ (text : List ℕ) (at : ℕ) where
-  -- a comma
-  pub comma_between : begins_with comma (drop at text) ≡ true → Between comma_behind text at (at + 1)
-  comma_between begins =
-      let there = stands_there text at comma begins in
-      record {
-        field_ends = ap rest_of_field there.1 ∙ comma_ends_field (drop (at + 1) text);
-        fields_follow = ap fields_behind there.1 ∙ fields_behind_comma (drop (at + 1) text);
-        lines_follow = ap lines_behind there.1 ∙ lines_stay_behind comma (drop (at + 1) text) (λ same. omega arith) (λ same. absurd (omega arith));
-        inside = omega (arith, there.0);
-        not_before = omega arith;
-      }
+-- a comma
+pub comma_found : (text : List ℕ) (found : Option (Bor (List ℕ))) → MatchOption found ((rest : List ℕ) → text ≡ comma ∷ rest → ⊥) (λ rest. text ≡ comma ∷ rest.now) → IsBetween comma_behind text (option_copied found)
+comma_found text None none = λ ended follow. follow (no_comma_no_fields text (not_begun comma text none) ended)
+comma_found text (Some rest) there =
+    record {
+      field_ends = ap rest_of_field there ∙ comma_ends_field rest.now;
+      fields_follow = ap fields_behind there ∙ fields_behind_comma rest.now;
+      lines_follow = ap lines_behind there ∙ lines_stay_behind comma rest.now (λ same. omega arith) (λ same. absurd (omega arith));
+      not_longer = omega (arith, ap length there);
+    }
 
-  pub no_comma_between : begins_with comma (drop at text) ≡ false → rest_of_field (drop at text) ≡ [] → (fields_behind (drop at text) ≡ [] → ⊥) → ⊥
-  no_comma_between none ended follow = follow (no_comma_no_fields (drop at text) none ended)
+-- the end of the text
+pub text_end : (text : List ℕ) → length text ≡ 0 → Between line_end_behind text text
+text_end [] none = record { field_ends = text_ends.field_ends; fields_follow = text_ends.no_fields; lines_follow = text_ends.lines_follow; not_longer = omega arith }
+text_end (byte ∷ text) none = absurd (omega arith)
 
-  -- a line's end up to a place
-  line_end_between : (next : ℕ) → LineEnds (drop at text) (drop next text) → next ≤ length text → at ≤ next → Between line_end_behind text at next
-  line_end_between next ends inside not_before =
-      record { field_ends = ends.field_ends; fields_follow = ends.no_fields; lines_follow = ends.lines_follow; inside = inside; not_before = not_before }
+-- LF
+pub LF_found : (text rest : List ℕ) → text ≡ LF ∷ rest → Between line_end_behind text rest
+LF_found text rest there =
+    let ends : LineEnds text rest = rw there (LF_ends rest) in
+    record { field_ends = ends.field_ends; fields_follow = ends.no_fields; lines_follow = ends.lines_follow; not_longer = omega (arith, ap length there) }
 
-  -- the end of the text
-  pub text_end : length (rest text at) ≡ 0 → at ≤ length text → Between line_end_behind text at at
-  text_end nothing inside =
-      let past : length text ≤ at = omega (arith, length-drop at text, ap length (rest_is text at)) in
-      let empty = drop_of_length-le text past in line_end_between at (rw empty text_ends) inside (omega arith)
-
-  -- LF
-  pub LF_end : drop at text ≡ LF ∷ drop (at + 1) text → at + 1 ≤ length text → Between line_end_behind text at (at + 1)
-  LF_end there inside = line_end_between (at + 1) (rw there (LF_ends (drop (at + 1) text))) inside (omega arith)
-
-  -- CR LF
-  pub CR_LF_end : drop at text ≡ CR ∷ LF ∷ drop (at + 2) text → at + 2 ≤ length text → Between line_end_behind text at (at + 2)
-  CR_LF_end there inside = line_end_between (at + 2) (rw there (CR_LF_ends (drop (at + 2) text))) inside (omega arith)
-
--- neither of them, nor the end
-pub no_line_end :
-    (text : List ℕ) → (length text ≡ 0 → ⊥) → ((behind : List ℕ) → text ≡ LF ∷ behind → ⊥) → ((behind : List ℕ) → text ≡ CR ∷ LF ∷ behind → ⊥)
-    → rest_of_field text ≡ []
-    → fields_behind text ≡ []
-    → ⊥
-no_line_end [] some_byte no_LF no_CR_LF = absurd (some_byte refl)
-no_line_end (byte ∷ others) some_byte no_LF no_CR_LF =
-    line_not_ended byte others (λ is_LF. no_LF others (ap (λ b. b ∷ others) is_LF)) (λ is_CR. LF_not_next others (λ behind same. no_CR_LF behind (ap (λ b. b ∷ others) is_CR ∙ ap (λ next. CR ∷ next) same)))
+-- CR LF, or another byte
+pub CR_LF_found :
+    (text : List ℕ) (found : Option (Bor (List ℕ))) → (length text ≡ 0 → ⊥) → ((rest : List ℕ) → text ≡ LF ∷ rest → ⊥)
+    → MatchOption found ((rest : List ℕ) → text ≡ CR ∷ LF ∷ rest → ⊥) (λ rest. text ≡ CR ∷ LF ∷ rest.now)
+    → IsBetween line_end_behind text (option_copied found)
+CR_LF_found text (Some rest) some_byte no_LF there =
+    let ends : LineEnds text rest.now = rw there (CR_LF_ends rest.now) in
+    record { field_ends = ends.field_ends; fields_follow = ends.no_fields; lines_follow = ends.lines_follow; not_longer = omega (arith, ap length there) }
+CR_LF_found [] None some_byte no_LF no_CR_LF = absurd (some_byte refl)
+CR_LF_found (byte ∷ others) None some_byte no_LF no_CR_LF =
+    line_not_ended byte others (λ is_LF. no_LF others (ap (λ b. b ∷ others) is_LF))
+    (λ is_CR. not_begun LF others (λ rest same. no_CR_LF rest (ap (λ b. b ∷ others) is_CR ∙ ap (λ next. CR ∷ next) same)))

@@ -1,5 +1,5 @@
--- The fields and lines of a text as the code finds them from a place on: what is there, and where it goes on.
-use Rattle.std.specs.Prelude.{◌≡◌, ℕ, ◌+◌, ◌≤◌, ◌<◌, min, true, false, Option, Some, None, List, [], ◌∷◌, ◌++◌, length, drop}
+-- The fields and lines of a text as the code finds them from the front: what is there, and what is left behind it.
+use Rattle.std.specs.Prelude.{◌≡◌, ℕ, ◌≤◌, ◌<◌, min, true, false, Option, Some, None, List, [], ◌∷◌, ◌++◌, length}
 use Rattle.std.proofs.Math.Option.{none, some}
 use Rattle.theory.specs.Row.{Row}
 use Rattle.rows.specs.Values.{row_of}
@@ -8,12 +8,12 @@ use Rattle.texts.specs.Rest.{rest_of_line, lines_behind, rest_of_field, fields_b
 use Rattle.fields.specs.declared.Number.{Number}
 use Rattle.fields.specs.declared.Line.{Line}
 
--- what the field at a place holds, and the fields of the line from there on
-abbrev pub held_at : List ℕ → ℕ → List ℕ
-held_at text at = held (rest_of_field (drop at text))
+-- what the first field holds, and the fields of the first line
+abbrev pub held_first : List ℕ → List ℕ
+held_first text = held (rest_of_field text)
 
-abbrev pub fields_at : List ℕ → ℕ → List (List ℕ)
-fields_at text at = fields_of (rest_of_line (drop at text))
+abbrev pub first_fields : List ℕ → List (List ℕ)
+first_fields text = fields_of (rest_of_line text)
 
 -- a number as the code holds it: above a million it is a million and one; a row so held breaks a limit exactly where the row itself does
 abbrev pub capped : ℕ → ℕ
@@ -26,57 +26,52 @@ capped_row row = record { C = capped row.C; D = capped row.D; T = capped row.T }
 abbrev pub opening : List ℕ → List ℕ
 opening text = elim (begins_with quote text) [ true ↦ quote ∷ [] | false ↦ [] ]
 
--- digits from a place up to another, and their number as the code holds it
-pub record DigitsTo (text : List ℕ) (at number end : ℕ) : Type 0 where
+-- digits at the front, what is left behind them, and their number as the code holds it
+pub record DigitsTo (text : List ℕ) (number : ℕ) (rest : List ℕ) : Type 0 where
   pub bytes : List ℕ
   pub value : ℕ
-  pub splits : drop at text ≡ bytes ++ drop end text
-  pub ends : end ≡ at + length bytes
-  pub inside : end ≤ length text
+  pub splits : text ≡ bytes ++ rest
   pub is_number : number_from 0 bytes ≡ some value
   pub as_held : number ≡ capped value
 
--- all digits from a place on
-abbrev pub IsDigits : List ℕ → ℕ → Number → Type 0
-IsDigits text at digits =
-    DigitsTo text at digits.value digits.end
-    × ((byte : ℕ) (others : List ℕ) → drop digits.end text ≡ byte ∷ others → is_digit byte ≡ false)
+-- all digits at the front
+abbrev pub IsDigits : List ℕ → Number → Type 0
+IsDigits text digits = DigitsTo text digits.value digits.rest.now × ((byte : ℕ) (others : List ℕ) → digits.rest.now ≡ byte ∷ others → is_digit byte ≡ false)
 
--- the field at a place, whose content is to end at another: where it ends
-abbrev pub IsFieldEnd : List ℕ → ℕ → ℕ → Option ℕ → Type 0
-IsFieldEnd text at end (Some next) = drop end text ≡ opening (drop at text) ++ drop next text × (next ≡ end + length (opening (drop at text))) × (next ≤ length text)
-IsFieldEnd text at end None = (begins_with quote (drop at text) ≡ true) × (begins_with quote (drop end text) ≡ false)
+-- what is left behind the first field, by what is left behind its content
+abbrev pub IsFieldEnd : List ℕ → List ℕ → Option (List ℕ) → Type 0
+IsFieldEnd text end (Some rest) = end ≡ opening text ++ rest
+IsFieldEnd text end None = (begins_with quote text ≡ true) × (begins_with quote end ≡ false)
 
--- the field at a place holds what is right exactly if it ends at another
-pub record EndsAt (Right : List ℕ → Type 0) (text : List ℕ) (at next : ℕ) : Type 0 where
-  pub same_lines : lines_behind (drop at text) ≡ lines_behind (drop next text)
-  pub same_fields : fields_behind (drop at text) ≡ fields_behind (drop next text)
-  pub right_there : rest_of_field (drop next text) ≡ [] → Right (held_at text at)
-  pub only_there : Right (held_at text at) → rest_of_field (drop next text) ≡ []
-  pub inside : next ≤ length text
-  pub further : at < next
+-- the first field holds what is right exactly if it ends where something is left
+pub record EndsAt (Right : List ℕ → Type 0) (text rest : List ℕ) : Type 0 where
+  pub same_lines : lines_behind text ≡ lines_behind rest
+  pub same_fields : fields_behind text ≡ fields_behind rest
+  pub right_there : rest_of_field rest ≡ [] → Right (held_first text)
+  pub only_there : Right (held_first text) → rest_of_field rest ≡ []
+  pub shorter : length rest < length text
 
--- the field at a place does not hold what is right
-abbrev pub Wrong : (List ℕ → Type 0) → List ℕ → ℕ → Type 0
-Wrong Right text at = Right (held_at text at) → ⊥
+-- the first field does not hold what is right
+abbrev pub Wrong : (List ℕ → Type 0) → List ℕ → Type 0
+Wrong Right text = Right (held_first text) → ⊥
 
--- where the field at a place holds a number, this is it, as the code holds it
-abbrev pub NumberAt : List ℕ → ℕ → ℕ → Type 0
-NumberAt text at n = (m : ℕ) → number_in (held_at text at) ≡ some m → n ≡ capped m
+-- where the first field holds a number, this is it, as the code holds it
+abbrev pub FirstNumber : List ℕ → ℕ → Type 0
+FirstNumber text n = (m : ℕ) → number_in (held_first text) ≡ some m → n ≡ capped m
 
--- the field at a place: a number, or not
-abbrev pub IsField : List ℕ → ℕ → Option Number → Type 0
-IsField text at (Some number) = EndsAt IsNumber text at number.end × NumberAt text at number.value
-IsField text at None = Wrong IsNumber text at
+-- the first field: a number, or not
+abbrev pub IsField : List ℕ → Option Number → Type 0
+IsField text (Some number) = EndsAt IsNumber text number.rest.now × FirstNumber text number.value
+IsField text None = Wrong IsNumber text
 
 -- bytes that are a name
 abbrev pub Named : List ℕ → List ℕ → Type 0
 Named name bytes = bytes ≡ name
 
--- the field at a place: a name, or not
-abbrev pub IsName : List ℕ → List ℕ → ℕ → Option ℕ → Type 0
-IsName name text at (Some next) = EndsAt (Named name) text at next
-IsName name text at None = Wrong (Named name) text at
+-- the first field: a name, or not
+abbrev pub IsName : List ℕ → List ℕ → Option (List ℕ) → Type 0
+IsName name text (Some rest) = EndsAt (Named name) text rest
+IsName name text None = Wrong (Named name) text
 
 -- what has to stand behind a field: a comma, or a line end
 pub data Behind : Type 0 where
@@ -89,61 +84,58 @@ Follow comma_behind fields = fields ≡ [] → ⊥
 Follow line_end_behind fields = fields ≡ []
 
 -- the fields and lines behind a comma, or behind a line end
-abbrev pub fields_on : Behind → List ℕ → ℕ → List (List ℕ)
-fields_on comma_behind text next = fields_at text next
-fields_on line_end_behind text next = []
+abbrev pub fields_on : Behind → List ℕ → List (List ℕ)
+fields_on comma_behind rest = first_fields rest
+fields_on line_end_behind rest = []
 
-abbrev pub lines_on : Behind → List ℕ → ℕ → List (List ℕ)
-lines_on comma_behind text next = lines_behind (drop next text)
-lines_on line_end_behind text next = lines_of (drop next text)
+abbrev pub lines_on : Behind → List ℕ → List (List ℕ)
+lines_on comma_behind rest = lines_behind rest
+lines_on line_end_behind rest = lines_of rest
 
--- a comma or a line end between two places
-pub record Between (behind : Behind) (text : List ℕ) (at next : ℕ) : Type 0 where
-  pub field_ends : rest_of_field (drop at text) ≡ []
-  pub fields_follow : fields_behind (drop at text) ≡ fields_on behind text next
-  pub lines_follow : lines_behind (drop at text) ≡ lines_on behind text next
-  pub inside : next ≤ length text
-  pub not_before : at ≤ next
+-- a comma or a line end at the front, and what is left behind it
+pub record Between (behind : Behind) (text rest : List ℕ) : Type 0 where
+  pub field_ends : rest_of_field text ≡ []
+  pub fields_follow : fields_behind text ≡ fields_on behind rest
+  pub lines_follow : lines_behind text ≡ lines_on behind rest
+  pub not_longer : length rest ≤ length text
 
-abbrev pub IsBetween : Behind → List ℕ → ℕ → Option ℕ → Type 0
-IsBetween behind text at (Some next) = Between behind text at next
-IsBetween behind text at None = rest_of_field (drop at text) ≡ [] → Follow behind (fields_behind (drop at text)) → ⊥
+abbrev pub IsBetween : Behind → List ℕ → Option (List ℕ) → Type 0
+IsBetween behind text (Some rest) = Between behind text rest
+IsBetween behind text None = rest_of_field text ≡ [] → Follow behind (fields_behind text) → ⊥
 
--- the field at a place holds what is right, and what has to is behind it
-pub record Followed (Right : List ℕ → Type 0) (behind : Behind) (text : List ℕ) (at next : ℕ) : Type 0 where
-  pub right : Right (held_at text at)
-  pub fields_follow : fields_behind (drop at text) ≡ fields_on behind text next
-  pub lines_follow : lines_behind (drop at text) ≡ lines_on behind text next
-  pub inside : next ≤ length text
-  pub further : at < next
+-- the first field holds what is right, and what has to is behind it
+pub record Followed (Right : List ℕ → Type 0) (behind : Behind) (text rest : List ℕ) : Type 0 where
+  pub right : Right (held_first text)
+  pub fields_follow : fields_behind text ≡ fields_on behind rest
+  pub lines_follow : lines_behind text ≡ lines_on behind rest
+  pub shorter : length rest < length text
 
 -- or it is not so
-abbrev pub NotFollowed : (List ℕ → Type 0) → Behind → List ℕ → ℕ → Type 0
-NotFollowed Right behind text at = Right (held_at text at) → Follow behind (fields_behind (drop at text)) → ⊥
+abbrev pub NotFollowed : (List ℕ → Type 0) → Behind → List ℕ → Type 0
+NotFollowed Right behind text = Right (held_first text) → Follow behind (fields_behind text) → ⊥
 
-abbrev pub IsFieldThen : Behind → List ℕ → ℕ → Option Number → Type 0
-IsFieldThen behind text at (Some number) = Followed IsNumber behind text at number.end × NumberAt text at number.value
-IsFieldThen behind text at None = NotFollowed IsNumber behind text at
+abbrev pub IsFieldThen : Behind → List ℕ → Option Number → Type 0
+IsFieldThen behind text (Some number) = Followed IsNumber behind text number.rest.now × FirstNumber text number.value
+IsFieldThen behind text None = NotFollowed IsNumber behind text
 
-abbrev pub IsNameThen : Behind → List ℕ → List ℕ → ℕ → Option ℕ → Type 0
-IsNameThen behind name text at (Some next) = Followed (Named name) behind text at next
-IsNameThen behind name text at None = NotFollowed (Named name) behind text at
+abbrev pub IsNameThen : Behind → List ℕ → List ℕ → Option (List ℕ) → Type 0
+IsNameThen behind name text (Some rest) = Followed (Named name) behind text rest
+IsNameThen behind name text None = NotFollowed (Named name) behind text
 
--- the header, and the place behind it; or another line
-abbrev pub IsHeader : List ℕ → Option ℕ → Type 0
-IsHeader text (Some next) = (hold (fields_of (rest_of_line text)) names ≡ true) × (lines_behind text ≡ lines_of (drop next text)) × (0 < next) × (next ≤ length text)
-IsHeader text None = hold (fields_of (rest_of_line text)) names ≡ false
+-- the header, and what is left behind it; or another line
+abbrev pub IsHeader : List ℕ → Option (List ℕ) → Type 0
+IsHeader text (Some rest) = (hold (first_fields text) names ≡ true) × (lines_behind text ≡ lines_of rest) × (length rest < length text)
+IsHeader text None = hold (first_fields text) names ≡ false
 
--- the line from a place on: a row, as the code holds it
-pub record RowAt (text : List ℕ) (at : ℕ) (line : Line) : Type 0 where
+-- the first line: a row, as the code holds it
+pub record FirstRow (text : List ℕ) (line : Line) : Type 0 where
   pub row : Row
-  pub is_row : row_in (fields_at text at) ≡ some row
+  pub is_row : row_in (first_fields text) ≡ some row
   pub as_held : row_of line.row ≡ capped_row row
-  pub lines_follow : lines_behind (drop at text) ≡ lines_of (drop line.next text)
-  pub inside : line.next ≤ length text
-  pub further : at < line.next
+  pub lines_follow : lines_behind text ≡ lines_of line.rest.now
+  pub shorter : length line.rest.now < length text
 
 -- a row, or no row
-abbrev pub IsLine : List ℕ → ℕ → Option Line → Type 0
-IsLine text at (Some line) = RowAt text at line
-IsLine text at None = row_in (fields_at text at) ≡ none
+abbrev pub IsLine : List ℕ → Option Line → Type 0
+IsLine text (Some line) = FirstRow text line
+IsLine text None = row_in (first_fields text) ≡ none

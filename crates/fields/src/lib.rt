@@ -1,9 +1,8 @@
-// The fields and lines of a text from a place on, read once from the front: document 02, request 2.
+// The fields and lines of a text, read once from the front: document 02, request 2. Each reader gives what is left behind what it read.
 #![tactic(auto)]
 
-ghost use Rattle.std.specs.Prelude.{◌≡◌, ◌+◌, ◌≤◌, ◌<◌, length, drop};
+ghost use Rattle.std.specs.Prelude.{◌≡◌, ◌++◌, ◌<◌, length, option_copied};
 ghost use Rattle.theory.specs.Gather.{All};
-ghost use Rattle.texts.specs.Text.{begins_with};
 ghost use Rattle.texts.specs.Rest.{Plain};
 ghost use Rattle.fields.specs.Found.{Behind, comma_behind, line_end_behind, opening, IsDigits, IsFieldEnd, IsField, IsName, IsBetween, IsFieldThen, IsNameThen, IsHeader, IsLine};
 
@@ -13,10 +12,9 @@ use rows::Row;
 trait Separator {
     ghost kind: { Behind };
 
-    // The place behind it, where it stands at a place.
-    fn behind(text: &[u8], at: usize) -> Option<usize>
-        requires { at ≤ length text.now }
-        ensures { IsBetween kind text.now at result };
+    // What is left behind it, where it stands at the front of a text.
+    fn behind(text: &[u8]) -> Option<&[u8]>
+        ensures { IsBetween kind text.now (option_copied result) };
 }
 
 struct Comma;
@@ -26,11 +24,8 @@ struct LineEnd;
 impl Separator for Comma {
     ghost kind = { comma_behind };
 
-    fn behind(text: &[u8], at: usize) -> Option<usize> {
-        if stands_at(text, at, b',') {
-            return Some(at + 1);
-        }
-        None
+    fn behind(text: &[u8]) -> Option<&[u8]> {
+        text.strip_prefix(b",")
     }
 }
 
@@ -38,162 +33,133 @@ impl Separator for Comma {
 impl Separator for LineEnd {
     ghost kind = { line_end_behind };
 
-    fn behind(text: &[u8], at: usize) -> Option<usize> {
-        let rest = &text[at..];
-        if rest.is_empty() {
-            return Some(at);
+    fn behind(text: &[u8]) -> Option<&[u8]> {
+        if text.is_empty() {
+            return Some(text);
         }
-        if rest.starts_with(b"\n") {
-            return Some(at + 1);
+        if let Some(rest) = text.strip_prefix(b"\n") {
+            return Some(rest);
         }
-        if rest.starts_with(b"\r\n") {
-            return Some(at + 2);
-        }
-        None
+        text.strip_prefix(b"\r\n")
     }
 }
 
-// A number as it is held, and the place behind its digits or its field.
+// A number as it is held, and what is left behind its digits or its field.
 #[derive(Clone, Copy)]
-struct Number {
+struct Number<'a> {
     value: u32,
-    end: usize,
+    rest: &'a [u8],
 }
 
-// A line that is a row, the row as it is held, and the place behind the line.
+// A line that is a row: the row as it is held, and what is left behind the line.
 #[derive(Clone, Copy)]
-pub struct Line {
+pub struct Line<'a> {
     pub row: Row,
-    pub next: usize,
+    pub rest: &'a [u8],
 }
 
-// Whether a byte stands at a place.
-fn stands_at(text: &[u8], at: usize, byte: u8) -> bool
-    ensures { result ≡ begins_with byte (drop at text.now) }
-{
-    text.get(at) == Some(&byte)
-}
-
-// The digits from a place on.
-fn read_digits(text: &[u8], at: usize) -> Number
-    requires { at ≤ length text.now }
-    ensures { IsDigits text.now at result }
+// The digits at the front of a text.
+fn read_digits(text: &[u8]) -> Number<'_>
+    ensures { IsDigits text.now result }
 {
     let mut value = 0u32;
-    for (many, byte) in text[at..].iter().enumerate() {
+    for (many, byte) in text.iter().enumerate() {
         if !byte.is_ascii_digit() {
             return Number {
                 value,
-                end: at + many,
+                rest: &text[many..],
             };
         }
         value = (value * 10 + u32::from(byte - b'0')).min(1_000_001);
     }
-    Number {
-        value,
-        end: text.len(),
-    }
+    Number { value, rest: &[] }
 }
 
-// Where the content of the field at a place begins: behind the quote that opens it.
-fn content_at(text: &[u8], at: usize) -> usize
-    requires { at ≤ length text.now }
-    ensures { (result ≡ at + length (opening (drop at text.now))) × (result ≤ length text.now) }
+// The text from the content of its first field on, which stands behind the quote that opens the field.
+fn content_of(text: &[u8]) -> &[u8]
+    ensures { text.now ≡ opening text.now ++ result.now }
 {
-    if stands_at(text, at, b'"') {
-        return at + 1;
-    }
-    at
+    text.strip_prefix(b"\"").unwrap_or(text)
 }
 
-// Where the field at a place ends, with content from a second place to a third: behind the quote that closes it, where one opens it.
-fn field_end(text: &[u8], at: usize, content: usize, end: usize) -> Option<usize>
-    requires { (content ≡ at + length (opening (drop at text.now))) × (end ≤ length text.now) }
-    ensures { IsFieldEnd text.now at end result }
+// What is left behind the first field of a text, by what is left behind its content: a quote closes it where one opens it.
+fn field_end<'a>(text: &[u8], end: &'a [u8]) -> Option<&'a [u8]>
+    ensures { IsFieldEnd text.now end.now (option_copied result) }
 {
-    if content == at {
-        return Some(end);
+    if text.starts_with(b"\"") {
+        return end.strip_prefix(b"\"");
     }
-    if !stands_at(text, end, b'"') {
+    Some(end)
+}
+
+// The first field of a text, where a number is wanted.
+fn read_number(text: &[u8]) -> Option<Number<'_>>
+    ensures { IsField text.now result }
+{
+    let content = content_of(text);
+    let digits = read_digits(content);
+    if digits.rest.len() == content.len() {
         return None;
     }
-    Some(end + 1)
-}
-
-// The field at a place, where a number is wanted.
-fn read_number(text: &[u8], at: usize) -> Option<Number>
-    requires { at ≤ length text.now }
-    ensures { IsField text.now at result }
-{
-    let content = content_at(text, at);
-    let digits = read_digits(text, content);
-    if digits.end == content {
-        return None;
-    }
-    let end = field_end(text, at, content, digits.end)?;
+    let rest = field_end(text, digits.rest)?;
     Some(Number {
         value: digits.value,
-        end,
+        rest,
     })
 }
 
-// The field at a place, where a name is wanted.
-fn read_name(text: &[u8], at: usize, name: &[u8]) -> Option<usize>
-    requires { (at ≤ length text.now) × (0 < length name.now) × All Plain name.now }
-    ensures { IsName name.now text.now at result }
+// The first field of a text, where a name is wanted.
+fn read_name<'a>(text: &'a [u8], name: &[u8]) -> Option<&'a [u8]>
+    requires { (0 < length name.now) × All Plain name.now }
+    ensures { IsName name.now text.now (option_copied result) }
 {
-    let content = content_at(text, at);
-    if !text[content..].starts_with(name) {
-        return None;
-    }
-    field_end(text, at, content, content + name.len())
+    let end = content_of(text).strip_prefix(name)?;
+    field_end(text, end)
 }
 
-// The field at a place, where a number is wanted and something behind it.
-fn number_then<S: Separator>(text: &[u8], at: usize) -> Option<Number>
-    requires { at ≤ length text.now }
-    ensures { IsFieldThen S.kind text.now at result }
+// The first field of a text, where a number is wanted and something behind it.
+fn number_then<S: Separator>(text: &[u8]) -> Option<Number<'_>>
+    ensures { IsFieldThen S.kind text.now result }
 {
-    let number = read_number(text, at)?;
-    let end = S::behind(text, number.end)?;
+    let number = read_number(text)?;
+    let rest = S::behind(number.rest)?;
     Some(Number {
         value: number.value,
-        end,
+        rest,
     })
 }
 
-// The field at a place, where a name is wanted and something behind it.
-fn name_then<S: Separator>(text: &[u8], at: usize, name: &[u8]) -> Option<usize>
-    requires { (at ≤ length text.now) × (0 < length name.now) × All Plain name.now }
-    ensures { IsNameThen S.kind name.now text.now at result }
+// The first field of a text, where a name is wanted and something behind it.
+fn name_then<'a, S: Separator>(text: &'a [u8], name: &[u8]) -> Option<&'a [u8]>
+    requires { (0 < length name.now) × All Plain name.now }
+    ensures { IsNameThen S.kind name.now text.now (option_copied result) }
 {
-    let end = read_name(text, at, name)?;
-    S::behind(text, end)
+    let end = read_name(text, name)?;
+    S::behind(end)
 }
 
-// The header, from the front of a text: the place behind it.
-pub fn read_header(text: &[u8]) -> Option<usize>
-    ensures { IsHeader text.now result }
+// What is left behind the header of a text.
+pub fn read_header(text: &[u8]) -> Option<&[u8]>
+    ensures { IsHeader text.now (option_copied result) }
 {
-    let second = name_then::<Comma>(text, 0, b"wcet")?;
-    let third = name_then::<Comma>(text, second, b"deadline")?;
-    name_then::<LineEnd>(text, third, b"period")
+    let second = name_then::<Comma>(text, b"wcet")?;
+    let third = name_then::<Comma>(second, b"deadline")?;
+    name_then::<LineEnd>(third, b"period")
 }
 
-// The line from a place on, where a row is wanted.
-pub fn read_line(text: &[u8], at: usize) -> Option<Line>
-    requires { at ≤ length text.now }
-    ensures { IsLine text.now at result }
+// The first line of a text, where a row is wanted.
+pub fn read_line(text: &[u8]) -> Option<Line<'_>>
+    ensures { IsLine text.now result }
 {
-    let c = number_then::<Comma>(text, at)?;
-    let d = number_then::<Comma>(text, c.end)?;
-    let t = number_then::<LineEnd>(text, d.end)?;
+    let c = number_then::<Comma>(text)?;
+    let d = number_then::<Comma>(c.rest)?;
+    let t = number_then::<LineEnd>(d.rest)?;
     Some(Line {
         row: Row {
             c: c.value,
             d: d.value,
             t: t.value,
         },
-        next: t.end,
+        rest: t.rest,
     })
 }

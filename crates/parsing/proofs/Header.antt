@@ -3,7 +3,6 @@ use mathlib.Core.Path.{◌≡◌, refl, ap, ◌∙◌}
 use Prim.Native.Nat.{ℕ}
 use native.Mathlib.Omega.{arith}
 use mathlib.Core.List.{List, [], ◌∷◌}
-use lib.ListN.{drop}
 use Rattle.std.specs.Prelude.{Some, None}
 use Rattle.records.specs.Reading.{refused}
 use Rattle.texts.specs.Text.{not_of_the_form, lines_of, rows_from, headed, text_of}
@@ -12,14 +11,10 @@ use Rattle.texts.proofs.Lines.{some_line}
 use Rattle.fields.specs.Found.{IsHeader}
 
 -- behind the header come the rows
-rows_behind : (text : List ℕ) (start : ℕ) → IsHeader text (Some start) → text_of text ≡ rows_from 2 (lines_of (drop start text))
+pub header_read : (text rest : List ℕ) → IsHeader text (Some rest) → text_of text ≡ rows_from 2 (lines_of rest)
 unfolding text_of headed
-rows_behind [] start found = absurd (omega (arith, found.2, found.3))
-rows_behind (byte ∷ text) start found = ap headed (some_line byte text) ∙ rw (found.0, headed) (ap (rows_from 2) found.1)
-
-pub header_read : (cores : ℕ) (text : List ℕ) (start : ℕ) → IsHeader text (Some start) → read_text cores text ≡ on_cores cores (rows_from 2 (lines_of (drop start text)))
-unfolding read_text
-header_read cores text start found = ap (on_cores cores) (rows_behind text start found)
+header_read [] rest found = absurd (omega (arith, found.2))
+header_read (byte ∷ text) rest found = ap headed (some_line byte text) ∙ rw (found.0, headed) (ap (rows_from 2) found.1)
 
 -- without it the text is not of the form at line 1
 no_header : (text : List ℕ) → IsHeader text None → text_of text ≡ not_of_the_form 1

@@ -1,4 +1,4 @@
 -- Proofs of what is read.
 pub mod Judging
-pub mod SoFar
 pub mod Header
+pub mod SoFar

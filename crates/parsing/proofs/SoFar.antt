@@ -1,14 +1,15 @@
 -- The way through the lines behind the header: where it begins, one more row, a line that is none, and the end.
 use mathlib.Core.Path.{◌≡◌, refl, sym, ap, subst, ◌∙◌}
-use Prim.Native.Nat.{ℕ, suc, ◌+◌, ◌≤◌, ◌<◌}
+use Prim.Native.Nat.{ℕ, suc, ◌+◌, ◌<◌}
 use native.Mathlib.Omega.{arith}
 use mathlib.Core.Bool.{Bool, true, false, ◌&&◌}
 use mathlib.Core.List.{List, [], ◌∷◌, ◌++◌, append-nil}
 use mathlib.Core.Option.{none}
 use lib.Dec.{leb, eqb}
-use lib.ListN.{length, get_or, drop, set, length-append, drop_of_length-le}
+use lib.ListN.{length, set, length-append}
+use Rattle.std.proofs.lemmas.List.{nil_from_length}
 use borrow.Author.Tests.{ne_eqb, eq-eqb, leb-false}
-use Rattle.std.specs.Prelude.{Result, Ok, Err}
+use Rattle.std.specs.Prelude.{Some, Result, Ok, Err}
 use Rattle.answers.specs.declared.Refusal.{Refusal}
 use Rattle.answers.specs.declared.Refusal.TheVariants.{CoresOutOfRange, RowsOutOfRange, RowBreaksLimits}
 use Rattle.theory.specs.Row.{Row, within_limits}
@@ -18,15 +19,15 @@ use Rattle.records.specs.Reading.{Reading, table, refused}
 use Rattle.reading.specs.Held.{held_rows, Held}
 use Rattle.reading.specs.Read.{refused_by}
 use Rattle.reading.proofs.HeldRows.{held_rows_one_more}
-use Rattle.texts.specs.Text.{Text, of_rows, not_of_the_form, lines_of, fields_of, row_in, with_row, rows_from}
+use Rattle.texts.specs.Text.{Text, of_rows, not_of_the_form, lines_of, row_in, with_row, rows_from, text_of}
 use Rattle.texts.specs.Rest.{rest_of_line, lines_behind}
-use Rattle.texts.specs.Table.{judged, table_from, in_rows_place, on_cores}
+use Rattle.texts.specs.Table.{judged, table_from, in_rows_place, on_cores, read_text}
 use Rattle.texts.proofs.Lines.{some_line}
 use Rattle.fields.specs.declared.Line.{Line}
-use Rattle.fields.specs.Found.{capped_row, RowAt}
-use Rattle.fields.proofs.Begins.{one_byte}
+use Rattle.fields.specs.Found.{first_fields, capped_row, IsHeader, FirstRow}
 use Rattle.parsing.specs.Judging.{judged_row, judged_table}
 use Rattle.parsing.proofs.Judging.{Judging, none_judged, capped_within, row_judged}
+use Rattle.parsing.proofs.Header.{header_read}
 
 -- rows in front of what the lines behind them are
 unfoldable pub with_rows : List Row → Text → Text
@@ -48,18 +49,17 @@ unfolding with_rows with_row
 with_none [] = refl
 with_none (row ∷ rows) = ap (with_row row) (with_none rows)
 
--- where the reading stands: the lines from a place on are still to be read, behind the rows that have been
-pub record SoFar (text : List ℕ) (start : ℕ) (c d t : List ℕ) (n : ℕ) (fault : Result (Unit {0}) Refusal) (at : ℕ) : Type 0 where
+-- where the reading stands: the lines left are still to be read, behind the rows that have been
+pub record SoFar (text : List ℕ) (c d t : List ℕ) (n : ℕ) (fault : Result (Unit {0}) Refusal) (rest : List ℕ) : Type 0 where
   pub so_far : List Row
   pub many : length so_far ≡ n
-  pub reads_on : rows_from 2 (lines_of (drop start text)) ≡ with_rows so_far (rows_from (n + 2) (lines_of (drop at text)))
+  pub reads_on : text_of text ≡ with_rows so_far (rows_from (n + 2) (lines_of rest))
   pub judging : Judging so_far fault
   pub kept : fault ≡ Ok tt → so_far ≡ held_rows n c d t
   pub c_long : length c ≡ 24
   pub d_long : length d ≡ 24
   pub t_long : length t ≡ 24
-  pub inside : at ≤ length text
-  pub lines_few : n + 1 ≤ at
+  pub lines_few : n + length rest < length text
 
 -- a row that is taken is behind rows without a fault, and there is room for it
 pub row_taken : (fault : Result (Unit {0}) Refusal) (n : ℕ) (row : Row) → judged_row fault n row ≡ Ok tt → (fault ≡ Ok tt) × (n < 24) × (within_limits row ≡ true)
@@ -74,36 +74,36 @@ row_taken (Ok sound) n row taken = go (leb 24 n) refl (within_limits row) refl t
     go false is_full true limits taken = (refl, leb-false 24 n is_full, limits)
     go false is_full false limits taken = cc
 
-module _ (text : List ℕ) (start : ℕ) where
+-- there is a line left
+some_line_left : (rest : List ℕ) → (length rest ≡ 0 → ⊥) → lines_of rest ≡ rest_of_line rest ∷ lines_behind rest
+some_line_left [] left = absurd (left refl)
+some_line_left (byte ∷ rest) left = some_line byte rest
+
+module _ (text : List ℕ) where
   -- behind the header, with no rows yet
-  pub begins : (c d t : List ℕ) → length c ≡ 24 → length d ≡ 24 → length t ≡ 24 → 1 ≤ start → start ≤ length text → SoFar text start c d t 0 (Ok tt) start
+  pub begins : (c d t : List ℕ) → length c ≡ 24 → length d ≡ 24 → length t ≡ 24 → (rest : List ℕ) → IsHeader text (Some rest) → SoFar text c d t 0 (Ok tt) rest
   unfolding with_rows rows_of
-  begins c d t c_long d_long t_long behind inside =
+  begins c d t c_long d_long t_long rest found =
       record {
         so_far = [];
         many = refl;
-        reads_on = refl;
+        reads_on = header_read text rest found;
         judging = none_judged;
         kept = λ sound. refl;
         c_long = c_long;
         d_long = d_long;
         t_long = t_long;
-        inside = inside;
-        lines_few = behind;
+        lines_few = omega (arith, found.2);
       }
 
-  module _ {c d t : List ℕ} {n : ℕ} {fault : Result (Unit {0}) Refusal} {at : ℕ} (stands : SoFar text start c d t n fault at) (left : at < length text) where
-    -- there is a line left
-    lines_left : lines_of (drop at text) ≡ rest_of_line (drop at text) ∷ lines_behind (drop at text)
-    lines_left = subst (λ (rest : List ℕ). lines_of rest ≡ rest_of_line rest ∷ lines_behind rest) (sym (one_byte text at left)) (some_line (get_or text at 0) (drop (at + 1) text))
-
-    module _ (line : Line) (found : RowAt text at line) where
+  module _ {c d t : List ℕ} {n : ℕ} {fault : Result (Unit {0}) Refusal} {rest : List ℕ} (stands : SoFar text c d t n fault rest) (left : length rest ≡ 0 → ⊥) where
+    module _ (line : Line) (found : FirstRow rest line) where
       abbrev taken : Row
       taken = row_of line.row
 
-      next_line : rows_from (n + 2) (lines_of (drop at text)) ≡ with_row found.row (rows_from (suc (n + 2)) (lines_of (drop line.next text)))
+      next_line : rows_from (n + 2) (lines_of rest) ≡ with_row found.row (rows_from (suc (n + 2)) (lines_of line.rest.now))
       unfolding rows_from
-      next_line = ap (rows_from (n + 2)) lines_left ∙ rw (found.is_row, rows_from) (ap (λ lines. with_row found.row (rows_from (suc (n + 2)) lines)) found.lines_follow)
+      next_line = ap (rows_from (n + 2)) (some_line_left rest left) ∙ rw (found.is_row, rows_from) (ap (λ lines. with_row found.row (rows_from (suc (n + 2)) lines)) found.lines_follow)
 
       -- a row without a fault is kept behind the others
       pub kept_one_more : judged_row fault n taken ≡ Ok tt → stands.so_far ++ (found.row ∷ []) ≡ held_rows (n + 1) (set c n line.row.c) (set d n line.row.d) (set t n line.row.t)
@@ -120,7 +120,7 @@ module _ (text : List ℕ) (start : ℕ) where
           {kept_c kept_d kept_t : List ℕ} {judges : Result (Unit {0}) Refusal} → judges ≡ judged_row fault n taken
           → (judges ≡ Ok tt → stands.so_far ++ (found.row ∷ []) ≡ held_rows (n + 1) kept_c kept_d kept_t)
           → length kept_c ≡ length c → length kept_d ≡ length d → length kept_t ≡ length t
-          → SoFar text start kept_c kept_d kept_t (n + 1) judges line.next
+          → SoFar text kept_c kept_d kept_t (n + 1) judges line.rest.now
       goes_on is_fault kept c_long d_long t_long =
           let number : suc (n + 2) ≡ n + 1 + 2 = omega arith in
           record {
@@ -128,8 +128,8 @@ module _ (text : List ℕ) (start : ℕ) where
             many = omega (arith, length-append stands.so_far (found.row ∷ []), stands.many);
             reads_on =
                 stands.reads_on
-                ∙ ap (with_rows stands.so_far) (next_line ∙ ap (λ (k : ℕ). with_row found.row (rows_from k (lines_of (drop line.next text)))) number)
-                ∙ sym (with_one_more stands.so_far found.row (rows_from (n + 1 + 2) (lines_of (drop line.next text))));
+                ∙ ap (with_rows stands.so_far) (next_line ∙ ap (λ (k : ℕ). with_row found.row (rows_from k (lines_of line.rest.now))) number)
+                ∙ sym (with_one_more stands.so_far found.row (rows_from (n + 1 + 2) (lines_of line.rest.now)));
             judging =
                 subst (Judging (stands.so_far ++ (found.row ∷ [])))
                 (ap (λ (k : ℕ). judged_row fault k (capped_row found.row)) stands.many ∙ ap (judged_row fault n) (sym found.as_held) ∙ sym is_fault)
@@ -138,21 +138,20 @@ module _ (text : List ℕ) (start : ℕ) where
             c_long = c_long ∙ stands.c_long;
             d_long = d_long ∙ stands.d_long;
             t_long = t_long ∙ stands.t_long;
-            inside = found.inside;
-            lines_few = omega (arith, found.further, stands.lines_few);
+            lines_few = omega (arith, found.shorter, stands.lines_few);
           }
 
     -- a line that is no row
-    pub breaks : (cores : ℕ) → row_in (fields_of (rest_of_line (drop at text))) ≡ none → on_cores cores (rows_from 2 (lines_of (drop start text))) ≡ refused 9 (in_rows_place (n + 2))
-    unfolding rows_from on_cores
+    pub breaks : (cores : ℕ) → row_in (first_fields rest) ≡ none → read_text cores text ≡ refused 9 (in_rows_place (n + 2))
+    unfolding rows_from on_cores read_text
     breaks cores no_row =
-        ap (on_cores cores) (stands.reads_on ∙ ap (with_rows stands.so_far) (ap (rows_from (n + 2)) lines_left ∙ rw (no_row, rows_from)) ∙ with_broken stands.so_far (n + 2))
+        ap (on_cores cores) (stands.reads_on ∙ ap (with_rows stands.so_far) (ap (rows_from (n + 2)) (some_line_left rest left) ∙ rw (no_row, rows_from)) ∙ with_broken stands.so_far (n + 2))
 
   -- at the end of the text
-  module _ (cores : ℕ) {c d t : List ℕ} {n : ℕ} {fault : Result (Unit {0}) Refusal} {at : ℕ} (stands : SoFar text start c d t n fault at) (past : length text ≤ at) where
-    all_rows : rows_from 2 (lines_of (drop start text)) ≡ of_rows stands.so_far
+  module _ (cores : ℕ) {c d t : List ℕ} {n : ℕ} {fault : Result (Unit {0}) Refusal} {rest : List ℕ} (stands : SoFar text c d t n fault rest) (past : length rest ≡ 0) where
+    all_rows : text_of text ≡ of_rows stands.so_far
     unfolding rows_from lines_of
-    all_rows = stands.reads_on ∙ ap (λ rest. with_rows stands.so_far (rows_from (n + 2) (lines_of rest))) (drop_of_length-le text past) ∙ with_none stands.so_far
+    all_rows = stands.reads_on ∙ ap (λ left. with_rows stands.so_far (rows_from (n + 2) (lines_of left))) (nil_from_length rest past) ∙ with_none stands.so_far
 
     -- what is read, by the answer to all rows
     abbrev Comes : Reading → Result (Unit {0}) Refusal → Type 0
@@ -170,8 +169,8 @@ module _ (text : List ℕ) (start : ℕ) where
       record { no_25th_row = omega (arith, stands.many, judges.0); c_long = stands.c_long; d_long = stands.d_long; t_long = stands.t_long },
     )
 
-    judged_end : Comes (on_cores cores (rows_from 2 (lines_of (drop start text)))) (judged_table cores n fault)
-    unfolding on_cores table_from
+    judged_end : Comes (read_text cores text) (judged_table cores n fault)
+    unfolding on_cores table_from read_text
     judged_end = subst (λ (reading : Reading). Comes reading (judged_table cores n fault)) (ap (on_cores cores) (sym all_rows)) (go (leb 1 cores && leb cores 8) stands.so_far refl)
       where
         go :
@@ -185,10 +184,8 @@ module _ (text : List ℕ) (start : ℕ) where
             rw (ne_eqb n 0 (λ no_rows. omega (arith, stands.many, ap length same)))
             (subst (λ (rows : List Row). Comes (judged 1 rows (table (record { cores = cores; rows = rows }))) fault) (sym same) (rows_end fault refl stands.judging))
 
-    pub ends_refused : {refusal : Refusal} {answer : Result (Unit {0}) Refusal} → answer ≡ judged_table cores n fault → answer ≡ Err refusal → on_cores cores (rows_from 2 (lines_of (drop start text))) ≡ refused_by refusal
-    ends_refused judges refuses = subst (Comes (on_cores cores (rows_from 2 (lines_of (drop start text))))) (sym judges ∙ refuses) judged_end
+    pub ends_refused : {refusal : Refusal} {answer : Result (Unit {0}) Refusal} → answer ≡ judged_table cores n fault → answer ≡ Err refusal → read_text cores text ≡ refused_by refusal
+    ends_refused judges refuses = subst (Comes (read_text cores text)) (sym judges ∙ refuses) judged_end
 
-    pub ends :
-        {answer : Result (Unit {0}) Refusal} → answer ≡ judged_table cores n fault → answer ≡ Ok tt
-        → (on_cores cores (rows_from 2 (lines_of (drop start text))) ≡ table (record { cores = cores; rows = held_rows n c d t })) × Held n c d t
-    ends judges accepts = subst (Comes (on_cores cores (rows_from 2 (lines_of (drop start text))))) (sym judges ∙ accepts) judged_end
+    pub ends : {answer : Result (Unit {0}) Refusal} → answer ≡ judged_table cores n fault → answer ≡ Ok tt → (read_text cores text ≡ table (record { cores = cores; rows = held_rows n c d t })) × Held n c d t
+    ends judges accepts = subst (Comes (read_text cores text)) (sym judges ∙ accepts) judged_end

@@ -2,11 +2,10 @@
 // copied.
 #![tactic(auto)]
 
-ghost use Rattle.std.specs.Prelude.{◌≡◌, ◌≤◌, length, drop};
+ghost use Rattle.std.specs.Prelude.{◌≡◌};
 ghost use Rattle.rows.specs.Values.{row_of};
 ghost use Rattle.reading.specs.Read.{IsRead};
-ghost use Rattle.texts.specs.Text.{lines_of, rows_from};
-ghost use Rattle.texts.specs.Table.{in_rows_place, on_cores, read_text};
+ghost use Rattle.texts.specs.Table.{in_rows_place, read_text};
 ghost use Rattle.parsing.specs.Judging.{judged_row, judged_table};
 
 use answers::{Answer, Refusal};
@@ -47,10 +46,8 @@ fn judge_table(cores: u32, n: usize, fault: Answer) -> Answer
     fault
 }
 
-// Reads the lines behind the header, from a place on. There is at least a byte for each line before it, so that a line's number is in range.
-fn read_rows(cores: u32, text: &[u8], start: usize) -> Result<Table, Refusal>
-    requires behind { (1 ≤ start) × (start ≤ length text.now) }
-    requires rows_left { read_text cores text.now ≡ on_cores cores (rows_from 2 (lines_of (drop start text.now))) }
+// Reads a text as a table on a number of cores. There is at least a byte for each line before those left, so that a line's number is in range.
+pub fn read_text(cores: u32, text: &[u8]) -> Result<Table, Refusal>
     ensures { IsRead (read_text cores text.now) result }
 {
     let mut c = [0u32; 24];
@@ -58,9 +55,9 @@ fn read_rows(cores: u32, text: &[u8], start: usize) -> Result<Table, Refusal>
     let mut t = [0u32; 24];
     let mut n = 0;
     let mut fault = Ok(());
-    let mut at = start;
-    while at < text.len() {
-        let Some(line) = fields::read_line(text, at) else {
+    let mut rest = fields::read_header(text).ok_or(Refusal::LineBroken(1))?;
+    while !rest.is_empty() {
+        let Some(line) = fields::read_line(rest) else {
             return Err(Refusal::LineBroken(line_number(n + 2)));
         };
         fault = judge_row(fault, n, line.row);
@@ -70,7 +67,7 @@ fn read_rows(cores: u32, text: &[u8], start: usize) -> Result<Table, Refusal>
             t[n] = line.row.t;
         }
         n += 1;
-        at = line.next;
+        rest = line.rest;
     }
     judge_table(cores, n, fault)?;
     Ok(Table {
@@ -80,12 +77,4 @@ fn read_rows(cores: u32, text: &[u8], start: usize) -> Result<Table, Refusal>
         d,
         t,
     })
-}
-
-// Reads a text as a table on a number of cores.
-pub fn read_text(cores: u32, text: &[u8]) -> Result<Table, Refusal>
-    ensures { IsRead (read_text cores text.now) result }
-{
-    let start = fields::read_header(text).ok_or(Refusal::LineBroken(1))?;
-    read_rows(cores, text, start)
 }

@@ -3,6 +3,6 @@ use Rattle.texts.specs.Rest.{IsNumber}
 use Rattle.fields.proofs.Followed.{not_followed}
 use Rattle.fields.proofs.number_then.Goals as goal
 
-pub returns-in_err-end : goal.returns-in_err-end
-returns-in_err-end g c =
-    rw c.from_residual-in_err-end.ensures (not_followed IsNumber g.S.Separator.kind c.args.text.now c.args.at c.in_ok-number.number.end c.in_ok-number.ensures.0 c.in_err-end.ensures)
+pub returns-in_err-rest : goal.returns-in_err-rest
+returns-in_err-rest g c =
+    rw c.from_residual-in_err-rest.ensures (not_followed IsNumber g.S.Separator.kind c.args.text.now c.in_ok-number.number.rest.now c.in_ok-number.ensures.0 c.in_err-rest.ensures)

@@ -1,10 +1,10 @@
 -- `Comma::behind` meets its contract.
-use mathlib.Core.Path.{sym, ◌∙◌}
-use Rattle.fields.proofs.Separators.{comma_between, no_comma_between}
+use mathlib.Core.List.{[], ◌∷◌}
+use Rattle.std.proofs.lemmas.Bool.Decides.{Decides-eqb}
+use Rattle.std.proofs.lemmas.Slice.Eq.{strip_prefix_is}
+use Rattle.texts.specs.Text.{comma}
+use Rattle.fields.proofs.Separators.{comma_found}
 use Rattle.fields.proofs.CommaSeparator.behind.Goals as goal
 
-pub returns-then-stands_at : goal.returns-then-stands_at
-returns-then-stands_at c = comma_between c.args.text.now c.args.at (sym c.stands_at.ensures ∙ c.if-stands_at.true)
-
 pub returns : goal.returns
-returns c = no_comma_between c.args.text.now c.args.at (sym c.stands_at.ensures ∙ c.if-stands_at.false)
+returns c = comma_found c.args.text.now c.strip_prefix.result (strip_prefix_is Decides-eqb c.args.text.now (comma ∷ []) c.strip_prefix.result c.strip_prefix.ensures.cases)
