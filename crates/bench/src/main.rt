@@ -8,26 +8,18 @@ ghost use Rattle.bench.specs.Lines.{HasLines};
 use std::io;
 use std::io::Read;
 
-// What standard input gave: so many bytes, at the front of the buffer, or a read that failed.
-#[derive(Drop)]
-enum Input {
-    Bytes(usize),
-    Failed,
-}
-
-// Reads until the buffer is full, the input ends or a read fails.
-fn read_input<R: Read>(reader: &mut R, buffer: &mut [u8]) -> Input
+// Reads until the buffer is full or the input ends, and counts the bytes; a read may fail.
+fn read_input<R: Read>(reader: &mut R, buffer: &mut [u8]) -> io::Result<usize>
     ensures { InFront result buffer.new }
 {
     let mut n = 0;
     while n < buffer.len() {
-        match reader.read(&mut buffer[n..]) {
-            Ok(0) => return Input::Bytes(n),
-            Ok(more) => n += more,
-            Err(_) => return Input::Failed,
+        match reader.read(&mut buffer[n..])? {
+            0 => break,
+            more => n += more,
         }
     }
-    Input::Bytes(n)
+    Ok(n)
 }
 
 // The lines for a table, at the front of a text that has room for those of any (`always_written`); gives how many bytes they are.
@@ -35,7 +27,7 @@ fn lines_of(table: &[u8], text: &mut [u8]) -> usize
     requires { 1102 ≤ length text.old }
     ensures { HasLines table.now text.new result }
 {
-    tables::list_table(table, text)
+    tables::list_table(table, text).unwrap()
 }
 
 // Prints the lines for a table.
@@ -49,8 +41,6 @@ fn print_listing(rt: &impl Print, table: &[u8]) -> io::Result<()> {
 // whole. Where a read fails what came is not taken for a table, and a record is missing, as where nothing came. Where a write fails, main ends with its error.
 fn main(rt: HostRuntime) -> io::Result<()> {
     let mut buffer = [0u8; 317];
-    match read_input(&mut rt.stdin(), &mut buffer) {
-        Input::Bytes(n) => print_listing(&rt, &buffer[..n]),
-        Input::Failed => print_listing(&rt, &[]),
-    }
+    let n = read_input(&mut rt.stdin(), &mut buffer).unwrap_or(0);
+    print_listing(&rt, &buffer[..n])
 }

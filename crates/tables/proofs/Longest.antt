@@ -5,6 +5,8 @@ use mathlib.Core.List.{List}
 use native.Mathlib.Omega.{arith}
 use lib.ListN.{length, take, drop, length-append}
 use lib.Seq.{take_at}
+use Rattle.std.specs.Prelude.{Option, None, Some, IsSome}
+use Rattle.std.specs.Option.{unwrap_or}
 use Rattle.placement.specs.Choice.{Rule}
 use Rattle.placement.proofs.Moment.{underway}
 use Rattle.records.proofs.Reading.{read_table_within}
@@ -41,3 +43,7 @@ module _ {rule : Rule} {bytes : List ℕ} where
   pub some_written : {listing after : List ℕ} {n : ℕ} → 1102 ≤ length listing → ListingAnswered rule bytes listing n after → (1 ≤ n) × (n ≤ length listing)
   some_written long (ListingAnswered.written lines listed fits) = (listed_some listed, fits)
   some_written long (ListingAnswered.too_short lines listed short) = absurd (omega (arith, listed_length listed))
+
+  pub always_some : {listing after : List ℕ} (answer : Option ℕ) → 1102 ≤ length listing → ListingAnswered rule bytes listing (unwrap_or answer 0) after → IsSome answer
+  always_some None long answered = absurd (omega (arith, some_written long answered))
+  always_some (Some n) long answered = refl

@@ -1,76 +1,72 @@
 // The table service, from table bytes to report bytes, and the listing of a table: document 01, "Records", "Refusal numbers" and "The listing".
 #![tactic(auto)]
 
-ghost use Rattle.std.specs.Prelude.{◌≤◌, length, take};
-ghost use Rattle.answers.specs.Answer.{returned_by};
+ghost use Rattle.std.specs.Prelude.{◌≡◌, ◌≤◌, MatchResult, IfSome};
+ghost use Rattle.std.specs.Option.{unwrap_or};
+ghost use Rattle.answers.specs.Answer.{refused_with, returned_by};
 ghost use Rattle.placement.specs.Choice.{allowance_fit};
+ghost use Rattle.listing.specs.Listing.{refusal};
 ghost use Rattle.service.specs.Table.{TableAnswered, Listed, ListingAnswered};
 
-use answers::Answer;
+use answers::Refusal;
+use arrayvec::ArrayVec;
 
 // The table service.
-pub fn table_service(table: &[u8], report: &mut [u8]) -> Answer
+pub fn table_service(table: &[u8], report: &mut [u8]) -> Result<(), Refusal>
     ensures { TableAnswered allowance_fit table.now report.old (returned_by result) report.new }
 {
-    let read = reading::read_table(table);
-    let answer = read.answer;
-    if answers::number_of(answer) != 0 {
-        return answer;
-    }
+    let read = reading::read_table(table)?;
     let n = read.n;
     if report.len() < 4 + 23 * n {
-        return Answer::OutputTooShort;
+        return Err(Refusal::OutputTooShort);
     }
-    let certificate = certifying::certificate_of(read);
-    let outcome = certificate.answer;
-    if answers::number_of(outcome) != 0 {
-        return outcome;
-    }
-    let core = certificate.core;
-    let response = certificate.response;
-    let allowance = certificate.allowance;
-    let end = 2 + 13 * n;
-    reports::write_report(
-        &table[..end],
-        &core[..n],
-        &response[..n],
-        &allowance[..n],
-        report,
-    );
-    Answer::Accepted
+    let certificate = certifying::certificate_of(&read)?;
+    reports::write_report(&table[..2 + 13 * n], &certificate.figures(), report);
+    Ok(())
 }
 
-// Writes the lines of a table's listing, or of its refusal, at the front of a text.
-fn write_lines(table: &[u8], text: &mut [u8]) -> usize
-    requires { 1102 ≤ length text.old }
-    ensures { Listed allowance_fit table.now (take result text.new) × (result ≤ 1102) }
+// The lines of a table's listing; or its refusal.
+fn listing_of(table: &[u8]) -> Result<ArrayVec<u8, 1102>, Refusal>
+    ensures { MatchResult result
+        (λ lines. Listed allowance_fit table.now lines.items)
+        (λ refused. Listed allowance_fit table.now (refusal (refused_with refused).number (refused_with refused).row)) }
 {
-    let read = reading::read_table(table);
-    let answer = read.answer;
-    if answers::number_of(answer) != 0 {
-        return lines::write_refusal(text, answer);
-    }
-    let n = read.n;
-    let certificate = certifying::certificate_of(read);
-    let outcome = certificate.answer;
-    if answers::number_of(outcome) != 0 {
-        return lines::write_refusal(text, outcome);
-    }
-    let core = certificate.core;
-    let response = certificate.response;
-    let allowance = certificate.allowance;
-    lines::write_listing(text, &core[..n], &response[..n], &allowance[..n])
+    let read = reading::read_table(table)?;
+    let certificate = certifying::certificate_of(&read)?;
+    let mut text = ArrayVec::new();
+    lines::write_listing(&mut text, &certificate.figures());
+    Ok(text)
 }
 
-// The listing of a table: how many bytes were written; 0, and nothing is, where they do not fit.
-pub fn list_table(table: &[u8], listing: &mut [u8]) -> usize
-    ensures { ListingAnswered allowance_fit table.now listing.old result listing.new }
+// The line of a refusal.
+fn refusal_of(refused: Refusal) -> ArrayVec<u8, 1102>
+    ensures { result.items ≡ refusal (refused_with refused).number (refused_with refused).row }
 {
-    let mut text = [0u8; 1102];
-    let n = write_lines(table, &mut text);
+    let mut text = ArrayVec::new();
+    lines::write_refusal(&mut text, Err(refused));
+    text
+}
+
+// The lines of a table's listing, or of its refusal.
+fn lines_of(table: &[u8]) -> ArrayVec<u8, 1102>
+    ensures { Listed allowance_fit table.now result.items }
+{
+    match listing_of(table) {
+        Ok(text) => text,
+        Err(refused) => refusal_of(refused),
+    }
+}
+
+// The listing of a table: how many bytes were written; none, and nothing is, where they do not fit.
+pub fn list_table(table: &[u8], listing: &mut [u8]) -> Option<usize>
+    ensures answered { ListingAnswered allowance_fit table.now listing.old (unwrap_or result 0) listing.new }
+    ensures some { IfSome result (λ n. 1 ≤ n) }
+{
+    let text = lines_of(table);
+    let n = text.len();
     if listing.len() < n {
-        return 0;
+        return None;
     }
-    numbers::put_bytes(listing, 0, &text[..n]);
-    n
+    listing[..n].copy_from_slice(text.as_slice());
+    Some(n)
 }
