@@ -1,3 +1,2 @@
 -- Laws of a table that was read and of its certificate, whatever the table was read from.
-pub mod Stages
 pub mod Small

@@ -1,21 +1,16 @@
-// From a table that was read to its certificate: what the services on bytes and on text have in common. It knows neither.
+// From a table in memory to its certificate: what the services on bytes and on text have in common. It knows neither.
 #![tactic(auto)]
 
-ghost use Rattle.records.specs.Reading.{TableWithin};
-ghost use Rattle.reading.specs.Held.{Held, held_table};
+ghost use Rattle.reading.specs.Read.{held_table};
 ghost use Rattle.certificates.specs.Held.{IsHeld};
 
+use answers::Refusal;
 use certificates::Certificate;
-use reading::Read;
+use reading::Table;
 
-// The certificate of the table that was read.
-pub fn certificate_of(read: Read) -> Certificate
-    requires { Held read.n read.c read.d read.t × TableWithin (held_table read) }
-    ensures { IsHeld (held_table read) result }
+// The certificate of a table.
+pub fn certificate_of(table: &Table) -> Result<Certificate, Refusal>
+    ensures { IsHeld (held_table table.now) result }
 {
-    let n = read.n;
-    let c = read.c;
-    let d = read.d;
-    let t = read.t;
-    certificates::certify(read.cores, &c[..n], &d[..n], &t[..n])
+    certificates::certify(table.cores, &table.rows())
 }
