@@ -1,51 +1,45 @@
 -- `text_service` meets its contract: the refusal of reading, the refusal of certifying, or the sheet, which is written aside and put into the lent bytes where it fits.
-use mathlib.Core.Path.{◌∙◌}
-use Prim.Native.Nat.{◌≤◌}
+use mathlib.Core.Path.{◌≡◌, refl, sym, ap, ◌∙◌}
+use Prim.Native.Nat.{ℕ}
+use mathlib.Core.List.{List, ◌++◌}
 use native.Mathlib.Omega.{arith}
-use lib.ListN.{length}
-use Rattle.texts.proofs.Reading.{read_text_within}
-use Rattle.reading.proofs.Answers.{read_refused}
-use Rattle.certifying.proofs.Stages.{read_by_number, certified_by_number}
+use lib.ListN.{length, drop}
+use lib.Seq.{length-take-le}
+use Rattle.std.proofs.lemmas.Result.{err_from_is_err_and}
+use Rattle.certifying.proofs.Given.{given_certified, given_many}
 use Rattle.service.specs.Text.{TextAnswered}
 use Rattle.spreadsheets.proofs.Stages.{refusal_answered, sheet_too_long, sheet_put}
 use Rattle.spreadsheets.proofs.text_service.Goals as goal
 
-pub returns-then-number_of-ne0 : goal.returns-then-number_of-ne0
-returns-then-number_of-ne0 c = TextAnswered.not_a_table _ _ (read_refused c.read_text-read.ensures (λ none. c.if-number_of-ne0.true (c.number_of.ensures ∙ none)))
+pub returns-in_err-table : goal.returns-in_err-table
+returns-in_err-table c = let p = err_from_is_err_and c.from_residual.result c.from_residual.ensures.1 in rw (p.1, p.2) (TextAnswered.not_a_table _ _ c.in_err-table.ensures)
 
-pub certificate_of-certificate-requires : goal.certificate_of-certificate-requires
-certificate_of-certificate-requires c =
-    let read = read_by_number (read_text_within _ _) c.read_text-read.ensures c.number_of.ensures c.if-number_of-ne0.false in
-    (read.held, read.within)
+pub returns-in_err-certificate : goal.returns-in_err-certificate
+returns-in_err-certificate c =
+    let p = err_from_is_err_and c.from_residual-in_err-certificate.result c.from_residual-in_err-certificate.ensures.1 in
+    rw (p.1, p.2) (refusal_answered c.args.cores c.args.text.now c.args.lent.now c.in_ok-table.table c.in_ok-table.ensures c.in_err-certificate.ensures)
 
-pub returns-then-number_of-ne0-2 : goal.returns-then-number_of-ne0-2
-returns-then-number_of-ne0-2 c =
-    let read = read_by_number (read_text_within _ _) c.read_text-read.ensures c.number_of.ensures c.if-number_of-ne0.false in
-    let args = c.args in
-    refusal_answered args.cores args.text.now args.lent.now read c.certificate_of-certificate.ensures (λ none. c.if-number_of-ne0-2.true (c.number_of-2.ensures ∙ none))
-
-pub write_columns-length-requires-clause-held : goal.write_columns-length-requires-clause-held
-write_columns-length-requires-clause-held c =
-    let read = read_by_number (read_text_within _ _) c.read_text-read.ensures c.number_of.ensures c.if-number_of-ne0.false in
-    let figures = certified_by_number read c.certificate_of-certificate.ensures c.number_of-2.ensures c.if-number_of-ne0-2.false in
-    (read.held, read.within, figures.long)
+pub write_text-requires : goal.write_text-requires
+write_text-requires c =
+    let given = c.figures.ensures in
+    let many = given_many c.in_ok-table.table c.in_ok-certificate.certificate c.figures.result c.in_ok-certificate.ensures given.core given.response given.allowance in
+    let table = c.in_ok-table.table in
+    let rows : length c.rows-rows.result.c.now ≡ table.n = rw c.rows-rows.ensures.c (length-take-le table.n table.c (omega arith)) in
+    let empty : length c.new-columns.result.items ≡ 0 = rw c.new-columns.ensures refl in
+    (omega arith, ((c.rows-rows.result.shaped, many ∙ sym rows), omega (arith, empty)))
 
 pub returns-then-lent-length : goal.returns-then-lent-length
 returns-then-lent-length c =
-    let read = read_by_number (read_text_within _ _) c.read_text-read.ensures c.number_of.ensures c.if-number_of-ne0.false in
-    let figures = certified_by_number read c.certificate_of-certificate.ensures c.number_of-2.ensures c.if-number_of-ne0-2.false in
-    let inside : c.write_columns-length.result ≤ length c.write_columns-length.new.text = omega (arith, c.write_columns-length.ensures.1, c.write_columns-length.auto.text) in
-    let args = c.args in
-    let sheet = c.write_columns-length in
-    sheet_too_long args.cores args.text.now args.lent.now
-    read figures sheet.new.text sheet.result sheet.ensures.0 inside (omega (arith, c.if-lent-length.true))
+    let given = c.figures.ensures in
+    let certified = given_certified c.in_ok-table.table c.in_ok-certificate.certificate c.figures.result c.in_ok-certificate.ensures given.core given.response given.allowance in
+    let sheet = rw (c.new-columns.ensures, c.rows-rows.ensures.c, c.rows-rows.ensures.d, c.rows-rows.ensures.t) at c.write_text.ensures.value in
+    sheet_too_long c.args.cores c.args.text.now c.args.lent.now c.in_ok-table.table c.in_ok-table.ensures certified c.write_text.new.text.items sheet c.len-length.result c.len-length.ensures.value
+    c.if-lent-length.true
 
 pub returns : goal.returns
 returns c =
-    let read = read_by_number (read_text_within _ _) c.read_text-read.ensures c.number_of.ensures c.if-number_of-ne0.false in
-    let figures = certified_by_number read c.certificate_of-certificate.ensures c.number_of-2.ensures c.if-number_of-ne0-2.false in
-    let inside : c.write_columns-length.result ≤ length c.write_columns-length.new.text = omega (arith, c.write_columns-length.ensures.1, c.write_columns-length.auto.text) in
-    let args = c.args in
-    let sheet = c.write_columns-length in
-    sheet_put args.cores args.text.now args.lent.now
-    read figures sheet.new.text sheet.result sheet.ensures.0 inside c.put_bytes.new.bytes (omega arith) c.put_bytes.ensures
+    let given = c.figures.ensures in
+    let certified = given_certified c.in_ok-table.table c.in_ok-certificate.certificate c.figures.result c.in_ok-certificate.ensures given.core given.response given.allowance in
+    let sheet = rw (c.new-columns.ensures, c.rows-rows.ensures.c, c.rows-rows.ensures.d, c.rows-rows.ensures.t) at c.write_text.ensures.value in
+    sheet_put c.args.cores c.args.text.now c.args.lent.now c.in_ok-table.table c.in_ok-table.ensures certified c.write_text.new.text.items sheet c.len-length.result c.len-length.ensures.value
+    c.if-lent-length.false _ (ap (λ (front : List ℕ). front ++ drop c.len-length.result c.args.lent.now) (c.copy_from_slice.ensures.after ∙ c.as_slice.ensures.value))
