@@ -1,21 +1,19 @@
--- A byte string from a place on: its first byte, and the numbers in it.
-use mathlib.Core.Path.{◌≡◌, ap, ◌∙◌}
-use Prim.Native.Nat.{ℕ, ◌+◌, ◌<◌}
-use mathlib.Core.List.{List, ◌∷◌}
-use native.Mathlib.Numerals.{add-one}
-use lib.ListN.{length, get_or, take, drop}
-use lib.Seq.{drop-cons, drop-drop}
-use Rattle.records.specs.Number.{big_endian_from, number_at}
+-- The first byte of a byte string, and the bytes behind it.
+use mathlib.Core.Path.{◌≡◌, refl}
+use Prim.Native.Nat.{ℕ, ◌-◌, ◌≤◌, ◌<◌}
+use native.Mathlib.Omega.{arith}
+use mathlib.Core.List.{List, [], ◌∷◌}
+use lib.ListN.{length, get_or, take, drop, length-drop}
+use lib.Seq.{take_all}
 
--- the byte there, and the bytes behind it
-pub byte_and_rest : (bytes : List ℕ) (at : ℕ) → at < length bytes → drop at bytes ≡ get_or bytes at 0 ∷ drop (at + 1) bytes
-byte_and_rest bytes at inside = rw (add-one at, drop-cons bytes at 0 inside)
+pub none_left : (bytes : List ℕ) → length bytes < 1 → bytes ≡ []
+none_left [] none = refl
+none_left (byte ∷ bytes) none = absurd (omega arith)
 
--- what lies some bytes behind a place lies at a place of its own
-pub rest_from_place : (bytes : List ℕ) (at k there : ℕ) → at + k ≡ there → drop k (drop at bytes) ≡ drop there bytes
-rest_from_place bytes at k there is-there = drop-drop k at bytes ∙ ap (λ (place : ℕ). drop place bytes) is-there
+pub byte_and_rest : (bytes : List ℕ) → 1 ≤ length bytes → bytes ≡ get_or bytes 0 0 ∷ drop 1 bytes
+byte_and_rest [] some = absurd (omega arith)
+byte_and_rest (byte ∷ bytes) some = refl
 
--- and so does a number there
-pub number_from_place : (bytes : List ℕ) (at k there : ℕ) → at + k ≡ there → number_at k (drop at bytes) ≡ number_at there bytes
-unfolding number_at
-number_from_place bytes at k there is-there = ap (λ (rest : List ℕ). big_endian_from 0 (take 4 rest)) (rest_from_place bytes at k there is-there)
+-- what is left behind the first bytes, up to the end
+pub rest_whole : (k : ℕ) (bytes : List ℕ) → take (length bytes - k) (drop k bytes) ≡ drop k bytes
+rest_whole k bytes = take_all (length bytes - k) (drop k bytes) (omega (arith, length-drop k bytes))

@@ -1,16 +1,16 @@
--- The body of a kind 4 record at a place: cut, no rows, another count, bytes after, or the end of the table.
+-- The body of a kind 4 record: cut, no rows, another count, bytes after, or the end of the table.
 use mathlib.Core.Path.{◌≡◌, refl, sym, ◌∙◌}
-use Prim.Native.Nat.{ℕ, ◌+◌, ◌≤◌, ◌<◌}
+use Prim.Native.Nat.{ℕ, ◌≤◌, ◌<◌}
 use mathlib.Core.List.{List, [], ◌∷◌}
 use native.Mathlib.Omega.{arith}
-use lib.ListN.{length, get_or, length-drop, drop_of_length-le}
+use lib.ListN.{length, get_or, drop}
 use borrow.Author.Tests.{eq-eqb, ne_eqb}
 use Rattle.answers.specs.declared.Refusal.TheVariants.{RecordsBroken, RowsOutOfRange, CountDiffers}
 use Rattle.std.specs.Prelude.{Ok, Err}
 use Rattle.theory.specs.Row.{Row}
 use Rattle.records.specs.Reading.{read_count}
 use Rattle.reading.specs.Next.{ended_with, IsCount}
-use Rattle.reading.proofs.Bytes.{byte_and_rest}
+use Rattle.reading.proofs.Bytes.{none_left, byte_and_rest}
 
 module _ (cores : ℕ) where
   -- without rows a count is refused, whatever it is
@@ -43,22 +43,21 @@ module _ (cores : ℕ) where
   right_count [] count some same = absurd (omega arith)
   right_count (row ∷ rows) count some same = rw (eq-eqb count (length (row ∷ rows)) same, read_count)
 
-module _ (bytes : List ℕ) (at n : ℕ) where
-  pub count_cut : length bytes ≤ at → IsCount bytes at n (Err RecordsBroken)
+module _ (body : List ℕ) (n : ℕ) where
+  pub count_cut : length body < 1 → IsCount body n (Err RecordsBroken)
   unfolding read_count
-  count_cut past cores rows many = rw (drop_of_length-le bytes past)
+  count_cut cut cores rows many = rw (none_left body cut)
 
-  module _ (inside : at < length bytes) where
-    pub count_without_rows : n ≡ 0 → IsCount bytes at n (Err RowsOutOfRange)
-    count_without_rows none cores rows many = rw (byte_and_rest bytes at inside) (no_rows cores rows _ _ (omega arith))
+  module _ (some_byte : 1 ≤ length body) where
+    pub count_without_rows : n ≡ 0 → IsCount body n (Err RowsOutOfRange)
+    count_without_rows none cores rows many = rw (byte_and_rest body some_byte) (no_rows cores rows _ _ (omega arith))
 
-    pub count_differs : (n ≡ 0 → ⊥) → (get_or bytes at 0 ≡ n → ⊥) → IsCount bytes at n (Err CountDiffers)
-    count_differs some other cores rows many = rw (byte_and_rest bytes at inside) (other_count cores rows _ _ (omega arith) (λ same. other (same ∙ many)))
+    pub count_differs : (n ≡ 0 → ⊥) → (get_or body 0 0 ≡ n → ⊥) → IsCount body n (Err CountDiffers)
+    count_differs some other cores rows many = rw (byte_and_rest body some_byte) (other_count cores rows _ _ (omega arith) (λ same. other (same ∙ many)))
 
-    pub count_and_more : (n ≡ 0 → ⊥) → get_or bytes at 0 ≡ n → at + 1 < length bytes → IsCount bytes at n (Err RecordsBroken)
-    count_and_more some same more cores rows many =
-        rw (byte_and_rest bytes at inside) (bytes_after cores rows _ _ (omega arith) (same ∙ sym many) (omega (arith, length-drop (at + 1) bytes)))
+    pub count_and_more : (n ≡ 0 → ⊥) → get_or body 0 0 ≡ n → 1 ≤ length (drop 1 body) → IsCount body n (Err RecordsBroken)
+    count_and_more some same more cores rows many = rw (byte_and_rest body some_byte) (bytes_after cores rows _ _ (omega arith) (same ∙ sym many) more)
 
-    pub count_ends : (n ≡ 0 → ⊥) → get_or bytes at 0 ≡ n → length bytes ≤ at + 1 → IsCount bytes at n (Ok tt)
+    pub count_ends : (n ≡ 0 → ⊥) → get_or body 0 0 ≡ n → length (drop 1 body) < 1 → IsCount body n (Ok tt)
     count_ends some same nothing cores rows many =
-        rw (byte_and_rest bytes at inside, drop_of_length-le bytes nothing) (right_count cores rows _ (omega arith) (same ∙ sym many))
+        rw (byte_and_rest body some_byte, none_left (drop 1 body) nothing) (right_count cores rows _ (omega arith) (same ∙ sym many))

@@ -1,4 +1,4 @@
--- Laws of the records of a table, each at its place in the bytes, and of the rows held so far.
+-- Laws of the records of a table, each by the bytes that are left, and of the rows held so far.
 pub mod Bytes
 pub mod CoresThere
 pub mod CountThere

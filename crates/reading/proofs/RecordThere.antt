@@ -1,11 +1,11 @@
--- The record at a place behind kind 1 and n rows: none, a count, another kind, a 25th row, a row cut short, a row that breaks the limits, or one more row.
+-- The first of the records that are left, behind kind 1 and n rows: none, a count, another kind, a 25th row, a row cut short, a row that breaks the limits, or one more row.
 use mathlib.Core.Path.{◌≡◌, refl, sym, ap, ◌∙◌}
 use Prim.Native.Nat.{ℕ, zero, suc, ◌+◌, ◌-◌, ◌≤◌, ◌<◌}
 use mathlib.Core.Bool.{true, false}
 use mathlib.Core.List.{List, [], ◌∷◌, ◌++◌}
 use native.Mathlib.Omega.{arith}
 use native.Mathlib.Numerals.{add-one}
-use lib.ListN.{length, get_or, drop, length-drop, drop_of_length-le}
+use lib.ListN.{length, get_or, drop}
 use borrow.Author.Tests.{le-leb, lt-leb, ne_eqb}
 use Rattle.std.specs.Prelude.{Result, Err}
 use Rattle.answers.specs.declared.Refusal.{Refusal}
@@ -13,7 +13,7 @@ use Rattle.answers.specs.declared.Refusal.TheVariants.{RecordsBroken, RowsOutOfR
 use Rattle.theory.specs.Row.{Row, within_limits}
 use Rattle.records.specs.Reading.{Reading, row_in, read_row, read_record, read_rows}
 use Rattle.reading.specs.Next.{ended_with, IsCount, Ends, IsRow}
-use Rattle.reading.proofs.Bytes.{byte_and_rest, rest_from_place}
+use Rattle.reading.proofs.Bytes.{none_left, byte_and_rest}
 
 -- a record that is no row is read alike, however many more rows there may be
 module _ (cores : ℕ) (rows : List Row) (bytes : List ℕ) (end : Reading) where
@@ -48,52 +48,40 @@ module _ (left cores : ℕ) (rows : List Row) (body : List ℕ) where
 one_more : (n : ℕ) → n < 24 → 24 - n ≡ suc (24 - (n + 1))
 one_more n few = omega arith
 
-module _ (bytes : List ℕ) (at n : ℕ) where
-  pub none_there : length bytes ≤ at → Ends bytes at n (Err RecordsBroken)
+-- the first of some records, behind any n rows
+module _ (records : List ℕ) (n : ℕ) where
+  pub none_there : length records < 1 → Ends records n (Err RecordsBroken)
   unfolding read_record
-  none_there past cores rows many = rw (drop_of_length-le bytes past) (however_many_left cores rows [] _ (λ row. refl) (24 - n))
+  none_there none cores rows many = rw (none_left records none) (however_many_left cores rows [] _ (λ row. refl) (24 - n))
 
-  module _ (inside : at < length bytes) where
-    pub count_there : (answer : Result (Unit {0}) Refusal) → get_or bytes at 0 ≡ 4 → IsCount bytes (at + 1) n answer → Ends bytes at n answer
+  module _ (some : 1 ≤ length records) where
+    pub count_there : (answer : Result (Unit {0}) Refusal) → get_or records 0 0 ≡ 4 → IsCount (drop 1 records) n answer → Ends records n answer
     unfolding read_record
     count_there answer is-count says cores rows many =
-        rw (byte_and_rest bytes at inside, is-count) (however_many_left cores rows _ _ (λ row. says cores rows many) (24 - n))
+        rw (byte_and_rest records some, is-count) (however_many_left cores rows _ _ (λ row. says cores rows many) (24 - n))
 
-    pub other_kind_there : (get_or bytes at 0 ≡ 4 → ⊥) → (get_or bytes at 0 ≡ 2 → ⊥) → Ends bytes at n (Err RecordsBroken)
+    pub other_kind_there : (get_or records 0 0 ≡ 4 → ⊥) → (get_or records 0 0 ≡ 2 → ⊥) → Ends records n (Err RecordsBroken)
     other_kind_there no-count no_row cores rows many =
-        rw (byte_and_rest bytes at inside) (however_many_left cores rows _ _ (other_kind cores rows _ _ no-count no_row) (24 - n))
+        rw (byte_and_rest records some) (however_many_left cores rows _ _ (other_kind cores rows _ _ no-count no_row) (24 - n))
 
-    module _ (is_row : get_or bytes at 0 ≡ 2) where
-      pub row_25_there : n ≡ 24 → Ends bytes at n (Err RowsOutOfRange)
-      unfolding read_rows read_record
-      row_25_there full cores rows many = rw (byte_and_rest bytes at inside, is_row, full)
+-- a kind 2 record by its body
+module _ (body : List ℕ) (n : ℕ) where
+  pub row_25_there : n ≡ 24 → Ends (2 ∷ body) n (Err RowsOutOfRange)
+  unfolding read_rows read_record
+  row_25_there full cores rows many = rw full
 
-      pub row_cut_there : n < 24 → length bytes < at + 13 → Ends bytes at n (Err RecordsBroken)
-      row_cut_there few cut cores rows many =
-          rw (byte_and_rest bytes at inside, is_row, one_more n few) (body_cut _ cores rows _ (omega (arith, length-drop (at + 1) bytes)))
+  module _ (few : n < 24) where
+    pub row_cut_there : length body < 12 → Ends (2 ∷ body) n (Err RecordsBroken)
+    row_cut_there cut cores rows many = rw (one_more n few) (body_cut _ cores rows body cut)
 
--- a whole kind 2 record at a place, where one more row is allowed
-module _
-    (bytes : List ℕ)
-    (at n : ℕ)
-    (is_row : get_or bytes at 0 ≡ 2)
-    (few : n < 24)
-    (whole : at + 13 ≤ length bytes)
-    {row : Row}
-    (is_body : row ≡ row_in (drop (at + 1) bytes)) where
-  body_whole : 12 ≤ length (drop (at + 1) bytes)
-  body_whole = omega (arith, length-drop (at + 1) bytes)
+    module _ (whole : 12 ≤ length body) {row : Row} (is_body : row ≡ row_in body) where
+      pub broken_there : within_limits row ≡ false → Ends (2 ∷ body) n (Err (RowBreaksLimits (n + 1)))
+      broken_there breaks cores rows many =
+          rw (one_more n few, add-one n, ← many) (body_breaks _ cores rows body whole (ap within_limits (sym is_body) ∙ breaks))
 
-  pub broken_there : within_limits row ≡ false → Ends bytes at n (Err (RowBreaksLimits (n + 1)))
-  broken_there breaks cores rows many =
-      rw (byte_and_rest bytes at (omega arith), is_row, one_more n few, add-one n, ← many)
-      (body_breaks _ cores rows _ body_whole (ap within_limits (sym is_body) ∙ breaks))
-
-  pub kept_there : within_limits row ≡ true → IsRow bytes at n row
-  kept_there keeps = record {
-    no_25th_row = few;
-    whole = whole;
-    goes_on = λ cores rows many.
-        rw (byte_and_rest bytes at (omega arith), is_row, one_more n few, is_body, ← rest_from_place bytes (at + 1) 12 (at + 13) (omega arith))
-        (body_keeps _ cores rows _ body_whole (ap within_limits (sym is_body) ∙ keeps));
-  }
+      pub kept_there : within_limits row ≡ true → IsRow (2 ∷ body) n row
+      kept_there keeps = record {
+        no_25th_row = few;
+        whole = omega arith;
+        goes_on = λ cores rows many. rw (one_more n few, is_body) (body_keeps _ cores rows body whole (ap within_limits (sym is_body) ∙ keeps));
+      }

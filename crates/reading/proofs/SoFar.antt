@@ -1,8 +1,8 @@
 -- The way through the records behind kind 1: where it begins, one more row, and the end.
 use mathlib.Core.Path.{◌≡◌, refl, ◌∙◌}
-use Prim.Native.Nat.{ℕ, ◌+◌, ◌-◌, ◌≤◌}
+use Prim.Native.Nat.{ℕ, ◌+◌, ◌-◌}
 use mathlib.Core.List.{List, []}
-use lib.ListN.{length, drop, set}
+use lib.ListN.{drop, set}
 use Rattle.std.specs.Prelude.{Result}
 use Rattle.answers.specs.declared.Refusal.{Refusal}
 use Rattle.theory.specs.Row.{Row}
@@ -12,29 +12,27 @@ use Rattle.reading.specs.Held.{held_rows, Held}
 use Rattle.reading.specs.Next.{ended_with, Ends, IsRow}
 use Rattle.reading.proofs.HeldRows.{held_rows_many, held_one_more, held_rows_one_more}
 
--- where the reading stands: the bytes from a place on are still to be read, behind the rows held
-pub record SoFar (bytes : List ℕ) (cores : ℕ) (c d t : List ℕ) (n at : ℕ) : Type 0 where
+-- where the reading stands: some records are left to be read, behind the rows held
+pub record SoFar (records : List ℕ) (cores : ℕ) (c d t : List ℕ) (n : ℕ) (rest : List ℕ) : Type 0 where
   pub held : Held n c d t
-  pub in_bytes : at ≤ length bytes
-  pub reads_on : read_rows 24 cores [] (drop 2 bytes) ≡ read_rows (24 - n) cores (held_rows n c d t) (drop at bytes)
+  pub reads_on : read_rows 24 cores [] records ≡ read_rows (24 - n) cores (held_rows n c d t) rest
 
-module _ (bytes : List ℕ) (cores : ℕ) where
+module _ (records : List ℕ) (cores : ℕ) where
   -- behind kind 1, with no rows yet
-  pub begins : (c d t : List ℕ) → Held 0 c d t → 2 ≤ length bytes → SoFar bytes cores c d t 0 2
+  pub begins : (c d t : List ℕ) → Held 0 c d t → SoFar records cores c d t 0 records
   unfolding rows_of
-  begins c d t held long = record { held = held; in_bytes = long; reads_on = refl }
+  begins c d t held = record { held = held; reads_on = refl }
 
-  module _ (c d t : List ℕ) (n at : ℕ) (so_far : SoFar bytes cores c d t n at) where
+  module _ (c d t : List ℕ) (n : ℕ) (rest : List ℕ) (so_far : SoFar records cores c d t n rest) where
     -- behind one more row
-    pub goes_on : (row : Row) → IsRow bytes at n row → SoFar bytes cores (set c n row.C) (set d n row.D) (set t n row.T) (n + 1) (at + 13)
+    pub goes_on : (row : Row) → IsRow rest n row → SoFar records cores (set c n row.C) (set d n row.D) (set t n row.T) (n + 1) (drop 13 rest)
     goes_on row is_row = record {
       held = held_one_more c d t n so_far.held is_row.no_25th_row row.C row.D row.T;
-      in_bytes = is_row.whole;
       reads_on =
           rw (held_rows_one_more c d t n so_far.held is_row.no_25th_row row.C row.D row.T)
           (so_far.reads_on ∙ is_row.goes_on cores (held_rows n c d t) (held_rows_many c d t n so_far.held));
     }
 
     -- at the end
-    pub ends : (answer : Result (Unit {0}) Refusal) → Ends bytes at n answer → read_rows 24 cores [] (drop 2 bytes) ≡ ended_with answer cores (held_rows n c d t)
+    pub ends : (answer : Result (Unit {0}) Refusal) → Ends rest n answer → read_rows 24 cores [] records ≡ ended_with answer cores (held_rows n c d t)
     ends answer says = so_far.reads_on ∙ says cores (held_rows n c d t) (held_rows_many c d t n so_far.held)
