@@ -14,7 +14,7 @@ use Rattle.placement.specs.Core.{Table as TableOf}
 use Rattle.placement.specs.Choice.{allowance_fit}
 use Rattle.placement.specs.Figures.{Figures, figures_from, Certified}
 use Rattle.placement.proofs.Certified.{certified_in_time}
-use Rattle.placement.proofs.FiguresFrom.{figures_from_at, figures_from_length}
+use Rattle.placement.proofs.FiguresFrom.{figures_from_at}
 use Rattle.records.specs.Reading.{read_table, table}
 use Rattle.records.specs.Report.{figures_record, count_record, table_records, table_bytes, report_bytes}
 use Rattle.records.proofs.Number.{AllBelow}
@@ -23,6 +23,7 @@ use Rattle.reading.specs.Read.{held_table}
 use Rattle.reading.proofs.HeldRows.{held_rows_many}
 use Rattle.certificates.specs.declared.certificate.Certificate.{Certificate}
 use Rattle.certificates.specs.Held.{IsHeld}
+use Rattle.certifying.proofs.Given.{given_certified, given_many}
 use Rattle.service.specs.Table.{TableAnswered}
 use Rattle.records.proofs.Reading.{read_from_own_bytes}
 use Rattle.records.proofs.Lengths.{table_records_length, table_bytes_length}
@@ -65,21 +66,17 @@ module _
     (core : figures.core.now ≡ take certificate.n certificate.core)
     (response : figures.response.now ≡ take certificate.n certificate.response)
     (allowance : figures.allowance.now ≡ take certificate.n certificate.allowance) where
-  pub given_certified : Certified allowance_fit (held_table of_rows) (figures_in figures)
-  given_certified = rw (core, response, allowance) held
+  certified : Certified allowance_fit (held_table of_rows) (figures_in figures)
+  certified = given_certified of_rows certificate figures held core response allowance
 
-  -- one for each row
-  pub given_many : length figures.core.now ≡ of_rows.n
-  given_many =
-      sym (figures_from_length figures.core.now figures.response.now figures.allowance.now figures.as_many_responses figures.as_many_allowances)
-      ∙ given_certified.are_figures.one_each
-      ∙ held_rows_many of_rows.c of_rows.d of_rows.t of_rows.n of_rows.held
+  many_given : length figures.core.now ≡ of_rows.n
+  many_given = given_many of_rows certificate figures held core response allowance
 
   -- the core's number is a byte
   pub given_bytes : (i : ℕ) → i < length figures.core.now → get_or figures.core.now i 0 < 256
   given_bytes =
       core_is_byte (held_table of_rows) figures.core.now figures.response.now figures.allowance.now of_rows.within.no_9th_core
-      (given_many ∙ sym (held_rows_many of_rows.c of_rows.d of_rows.t of_rows.n of_rows.held)) figures.as_many_responses figures.as_many_allowances given_certified
+      (many_given ∙ sym (held_rows_many of_rows.c of_rows.d of_rows.t of_rows.n of_rows.held)) figures.as_many_responses figures.as_many_allowances certified
 
   -- put behind the table's records, with kind 4 behind them, they are the report
   pub report_put : (bytes report after : List ℕ) → AllBelow 256 bytes → read_table bytes ≡ table (held_table of_rows) → 4 + 23 * of_rows.n ≤ length report
@@ -88,5 +85,5 @@ module _
   report_put bytes report after below reads long put =
       let many = held_rows_many of_rows.c of_rows.d of_rows.t of_rows.n of_rows.held in
       let all = figures_in figures in
-      rw (put, given_many, report_of_records bytes (held_table of_rows) all of_rows.n below reads many)
-      (TableAnswered.accepted (held_table of_rows) all reads (omega (arith, many)) given_certified)
+      rw (put, many_given, report_of_records bytes (held_table of_rows) all of_rows.n below reads many)
+      (TableAnswered.accepted (held_table of_rows) all reads (omega (arith, many)) certified)

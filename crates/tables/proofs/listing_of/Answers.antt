@@ -2,9 +2,9 @@
 use mathlib.Core.Path.{sym, subst}
 use Rattle.std.proofs.lemmas.Result.{err_from_is_err_and}
 use Rattle.placement.specs.Choice.{allowance_fit}
+use Rattle.certifying.proofs.Given.{given_certified}
 use Rattle.service.specs.Table.{Listed}
 use Rattle.tables.proofs.Stages.{refusal_listed}
-use Rattle.tables.proofs.Reported.{given_certified}
 use Rattle.tables.proofs.listing_of.Goals as goal
 
 pub returns-in_err-read : goal.returns-in_err-read

@@ -6,9 +6,10 @@ use lib.Seq.{length-take-le}
 use Rattle.std.proofs.lemmas.Result.{err_from_is_err_and}
 use Rattle.reading.specs.Read.{held_table}
 use Rattle.reading.proofs.HeldRows.{held_rows_many}
+use Rattle.certifying.proofs.Given.{given_many}
 use Rattle.service.specs.Table.{TableAnswered}
 use Rattle.tables.proofs.Stages.{refusal_answered}
-use Rattle.tables.proofs.Reported.{table_length, given_many, given_bytes, report_put}
+use Rattle.tables.proofs.Reported.{table_length, given_bytes, report_put}
 use Rattle.tables.proofs.table_service.Goals as goal
 
 pub returns-in_err-read : goal.returns-in_err-read
