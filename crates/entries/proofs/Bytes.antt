@@ -1,11 +1,14 @@
 -- A list service on bytes, from what it returns on the numbers that they are.
-use mathlib.Core.Path.{◌≡◌, refl, sym, ap, ◌∙◌}
+use mathlib.Core.Path.{◌≡◌, sym, ap, ◌∙◌}
 use Prim.Native.Nat.{ℕ, ◌≤◌}
 use mathlib.Core.Logic.{⊎_elim}
 use mathlib.Core.List.{List, [], ◌∷◌, ◌++◌, flat_map}
 use native.Mathlib.Omega.{arith}
 use lib.ListN.{length, take, length-take}
 use lib.Seq.{take-append-le}
+use Rattle.std.proofs.Common.{Ok, Err}
+use Rattle.answers.specs.declared.Refusal.{Refusal}
+use Rattle.answers.specs.Answer.{refused_with}
 use Rattle.theory.specs.Returned.{Returned, returned}
 use Rattle.theory.specs.Row.{Row}
 use Rattle.theory.specs.Lists.{filled, Answered, rows_out_of_range}
@@ -13,7 +16,8 @@ use Rattle.records.specs.Number.{four_bytes}
 use Rattle.records.specs.ListBytes.{numbers_in, bytes_of, Fours, BytesAnswered, not_fours, as_numbers}
 use Rattle.records.proofs.Number.{AllBelow, all_below_drop}
 use Rattle.records.proofs.ListBytes.{number_first, kept}
-use Rattle.entries.specs.Lists.{RowBytes, AnsweredInBytes}
+use Rattle.entries.specs.declared.lists.Lists.{Lists}
+use Rattle.entries.specs.Lists.{IsRead, no_rows, as_lists, AnsweredInBytes}
 use Rattle.entries.proofs.RowBytes.{no_rows_because}
 use Rattle.entries.proofs.Cut.{CutAnswered, refused_alike, accepted_alike}
 
@@ -32,15 +36,16 @@ front_filled (n ∷ numbers) (a ∷ (b ∷ (c ∷ (d ∷ bytes)))) inside below 
     ∙ sym (number_first n a b c d (bytes_of numbers) bytes)
 
 -- with answer lists as bytes, a service answers on rows as numbers as it does on the bytes that these are
-module _ {Allowance : List Row → ℕ → ℕ → Type 0} {responses allowances : List ℕ} {returns : Returned} {responses-after allowances-after : List ℕ} where
-  pub in_bytes_answered : (cs ds ts : List ℕ) {Cs Ds Ts : List ℕ} → Fours cs × Fours ds × Fours ts
-      → Cs ≡ numbers_in cs
-      → Ds ≡ numbers_in ds
-      → Ts ≡ numbers_in ts
-      → AnsweredInBytes Allowance Cs Ds Ts responses allowances returns responses-after allowances-after
+module _ {Allowance : List Row → ℕ → ℕ → Type 0} {cs ds ts responses allowances : List ℕ} {returns : Returned} {responses-after allowances-after : List ℕ} where
+  in_bytes_answered : Fours cs × Fours ds × Fours ts
+      → AnsweredInBytes Allowance (numbers_in cs) (numbers_in ds) (numbers_in ts) responses allowances returns responses-after allowances-after
       → BytesAnswered Allowance cs ds ts responses allowances returns responses-after allowances-after
-  in_bytes_answered cs ds ts fours are-c are-d are-t bytes =
-      rw (bytes.responses_are, bytes.allowances_are) (as_numbers returns bytes.Rs bytes.As fours (rw (are-c, are-d, are-t) at bytes.answered))
+  in_bytes_answered fours bytes = rw (bytes.responses_are, bytes.allowances_are) (as_numbers returns bytes.Rs bytes.As fours bytes.answered)
+
+  pub read_answered : {lists : Lists} → IsRead cs ds ts (Ok lists)
+      → AnsweredInBytes Allowance (take lists.n lists.c) (take lists.n lists.d) (take lists.n lists.t) responses allowances returns responses-after allowances-after
+      → BytesAnswered Allowance cs ds ts responses allowances returns responses-after allowances-after
+  read_answered (as_lists lists fours is_c is_d is_t) bytes = in_bytes_answered fours (rw (is_c, is_d, is_t) at bytes)
 
 module _
     {Allowance : List Row → ℕ → ℕ → Type 0}
@@ -59,9 +64,9 @@ module _
   }
 
   -- byte strings that are no rows
-  pub no_rows_answered : (cs ds ts : List ℕ) → (RowBytes cs ds ts → ⊥) → BytesAnswered Allowance cs ds ts responses allowances (returned 3 0) responses allowances
-  no_rows_answered cs ds ts none =
-      ⊎_elim not_fours (λ whole. in_bytes_answered cs ds ts whole.0 refl refl refl (refused_in_bytes (rows_out_of_range whole.1))) (no_rows_because cs ds ts none)
+  pub unread_answered : {cs ds ts : List ℕ} {refusal : Refusal} → IsRead cs ds ts (Err refusal) → BytesAnswered Allowance cs ds ts responses allowances (refused_with refusal) responses allowances
+  unread_answered {cs} {ds} {ts} (no_rows none) =
+      ⊎_elim not_fours (λ whole. in_bytes_answered whole.0 (refused_in_bytes (rows_out_of_range whole.1))) (no_rows_because cs ds ts none)
 
   -- the service's result on answer lists that are cut to 24 numbers
   module _ {cs ds ts : List ℕ} {returns : Returned} {Rs As : List ℕ} (cut : CutAnswered Allowance cs ds ts (numbers_in responses) (numbers_in allowances) returns Rs As) where

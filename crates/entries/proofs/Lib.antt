@@ -5,3 +5,4 @@ pub mod Bytes
 pub mod Returned
 pub mod Explained
 pub mod Lent
+pub mod Refused

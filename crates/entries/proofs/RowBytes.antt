@@ -1,8 +1,7 @@
 -- Whether three byte strings are rows is told by their lengths alone.
 use mathlib.Core.Path.{◌≡◌}
 use Prim.Native.Nat.{ℕ, ◌%◌, ◌≤◌}
-use mathlib.Core.Bool.{Bool, true, false}
-use mathlib.Core.Logic.{◌↔◌, ◌⊎◌, inl, inr}
+use mathlib.Core.Logic.{◌⊎◌, inl, inr}
 use mathlib.Core.List.{List}
 use native.Mathlib.Omega.{arith}
 use lib.ListN.{length}
@@ -34,10 +33,6 @@ module _ (cs ds ts : List ℕ) where
         no_25th = omega (arith, rows.fours, rows.shaped);
       }
 
-  -- the same where a test tells that they are rows
-  pub lengths_told : {told : Bool} → (told ≡ true) ↔ RowBytes cs ds ts → told ≡ true → RowLengths
-  lengths_told tells told = lengths_of_rows (tells.0 told)
-
   pub rows_of_lengths : RowLengths → RowBytes cs ds ts
   rows_of_lengths lengths =
       let c = numbers_length cs in
@@ -47,10 +42,6 @@ module _ (cs ds ts : List ℕ) where
         fours = (lengths.fours, omega arith, omega arith);
         shaped = record { some_row = omega arith; no_25th = omega arith; as_many_deadlines = omega arith; as_many_periods = omega arith };
       }
-
-  -- the answer `false` is right where there are no rows
-  pub told_none : (RowBytes cs ds ts → ⊥) → (◌≡◌ {A = Bool} false true) ↔ RowBytes cs ds ts
-  told_none none = (λ e. absurd (let z : ◌≡◌ {A = ℕ} 0 1 = cc in omega arith), λ rows. absurd (none rows))
 
   -- byte strings that are no rows: a length is not a multiple of four, or the numbers are not as many as rows have
   pub no_rows_because : (RowBytes cs ds ts → ⊥)

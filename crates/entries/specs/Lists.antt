@@ -1,23 +1,28 @@
--- Both list services on bytes, step by step: byte strings that are rows, the meaning of an allowance, and answer lists that are bytes.
-use Rattle.std.specs.Prelude.{◌≡◌, ℕ, List, pos}
+-- Both list services on bytes, step by step: byte strings that are rows, the numbers read from them, and answer lists that are bytes.
+use Rattle.std.specs.Prelude.{◌≡◌, ℕ, List, take, Result, Ok, Err}
+use Rattle.answers.specs.declared.Refusal.{Refusal}
+use Rattle.answers.specs.declared.Refusal.TheVariants.{RowsOutOfRange}
 use Rattle.theory.specs.Returned.{Returned}
 use Rattle.theory.specs.Row.{Row}
-use Rattle.theory.specs.Allowance.{IsAllowance}
-use Rattle.theory.specs.Points.{IsPointAllowance}
 use Rattle.theory.specs.Lists.{Shaped, filled, Answered}
 use Rattle.records.specs.ListBytes.{numbers_in, bytes_of, Fours}
-use Rattle.entries.specs.declared.AllowancesBy.{AllowancesBy}
-use Rattle.entries.specs.declared.AllowancesBy.TheVariants.{Trial, Points}
+use Rattle.entries.specs.declared.lists.Lists.{Lists}
 
 -- three byte strings that pass refusal 3: four bytes for each of 1 to 24 rows
 pub record RowBytes (cs ds ts : List ℕ) : Type 0 where
   pub fours : Fours cs × Fours ds × Fours ts
   pub shaped : Shaped (numbers_in cs) (numbers_in ds) (numbers_in ts)
 
--- the allowance as the service that finds it so means it
-abbrev pub allowance_by : AllowancesBy → List Row → ℕ → ℕ → Type 0
-allowance_by Trial = IsAllowance
-allowance_by Points = λ rows i a. IsPointAllowance rows i (pos a)
+-- what three byte strings are read as: refused where they are no rows, else the numbers that they are
+pub data IsRead (cs ds ts : List ℕ) : Result Lists Refusal → Type 0 where
+  no_rows : (RowBytes cs ds ts → ⊥) → IsRead cs ds ts (Err RowsOutOfRange)
+  as_lists :
+      (lists : Lists)
+      → Fours cs × Fours ds × Fours ts
+      → take lists.n lists.c ≡ numbers_in cs
+      → take lists.n lists.d ≡ numbers_in ds
+      → take lists.n lists.t ≡ numbers_in ts
+      → IsRead cs ds ts (Ok lists)
 
 -- what a service returns on rows as numbers, with its two lent lists as bytes, and these bytes at the end
 pub record AnsweredInBytes (Allowance : List Row → ℕ → ℕ → Type 0) (cs ds ts responses allowances : List ℕ) (returns : Returned) (responses-after allowances-after : List ℕ) : Type 0 where

@@ -2,17 +2,20 @@
 // pointer and a length in C; what C owes is that there are so many bytes, and that a lent byte string overlaps no other.
 #![tactic(auto)]
 
-ghost use Rattle.std.specs.Prelude.{◌≡◌, true, ◌↔◌, ◌/◌, ◌≤◌, min};
+ghost use Rattle.std.specs.Prelude.{◌≡◌, ◌/◌, ◌≤◌, min};
+ghost use Rattle.std.specs.Result.{result_unwrap_or};
 ghost use Rattle.answers.specs.Answer.{returned_by, number_of, row_of};
-ghost use Rattle.theory.specs.Lists.{Answered};
 ghost use Rattle.records.specs.ListBytes.{BytesAnswered};
 ghost use Rattle.records.specs.ExplanationBytes.{BytesExplained};
-ghost use Rattle.entries.specs.Lists.{RowBytes, allowance_by, AnsweredInBytes};
+ghost use Rattle.sets.specs.Stages.{limiting_of, point_of};
+ghost use Rattle.entries.specs.Lists.{IsRead, AnsweredInBytes};
 ghost use Rattle.entries.specs.Entry.{TableReturned, ListsReturned, SetReturned, PointReturned, ListingReturned, WhyReturned, TextReturned, TextTableReturned};
 
-use answers::Answer;
-use sets::Explanation;
-use spreadsheets::Written;
+mod lists;
+
+use answers::{Answer, Refusal};
+use lists::Lists;
+use sets::{ByPoints, ByTrial, Explanation, FindAllowances};
 
 // An answer as C takes it: its number and its row.
 #[repr(C)]
@@ -41,154 +44,134 @@ pub struct EntryWritten {
     pub length: u32,
 }
 
-// How allowances are found.
-#[derive(Drop)]
-enum AllowancesBy {
-    Trial,
-    Points,
-}
+impl From<Answer> for EntryAnswer {
+    ghost from_gives = { λ answer entry. (entry.number ≡ number_of answer) × (entry.row ≡ row_of answer) };
 
-fn entry_answer(answer: Answer) -> EntryAnswer
-    ensures { (result.number ≡ number_of answer) × (result.row ≡ row_of answer) }
-{
-    EntryAnswer {
-        number: answers::number_of(answer),
-        row: answers::row_of(answer),
+    fn from(answer: Answer) -> EntryAnswer {
+        EntryAnswer {
+            number: answers::number_of(answer),
+            row: answers::row_of(answer),
+        }
     }
 }
 
-fn entry_written(written: Written) -> EntryWritten
-    requires { written.length ≤ 1654 }
-    ensures { (result.number ≡ number_of written.answer) × (result.row ≡ row_of written.answer) × (result.length ≡ written.length) }
-{
-    let given = written.answer;
-    let answer = entry_answer(given);
-    EntryWritten {
-        number: answer.number,
-        row: answer.row,
-        length: written.length as u32,
+// With a refusal the figures are 0.
+impl From<Result<Explanation, Refusal>> for EntryExplanation {
+    ghost from_gives = { λ answer entry.
+        (entry.number ≡ number_of answer) × (entry.row ≡ row_of answer) × (entry.limiting ≡ limiting_of answer) × (entry.point ≡ point_of answer) };
+
+    fn from(answer: Result<Explanation, Refusal>) -> EntryExplanation {
+        match answer {
+            Ok(explanation) => EntryExplanation {
+                number: 0,
+                row: 0,
+                limiting: explanation.limiting,
+                point: explanation.point,
+            },
+            Err(refusal) => EntryExplanation {
+                number: refusal.number(),
+                row: refusal.row(),
+                limiting: 0,
+                point: 0,
+            },
+        }
     }
 }
 
-// Whether three byte strings are lists of one length, 1 to 24 numbers of four bytes.
-fn are_rows(c: &[u8], d: &[u8], t: &[u8]) -> bool
-    ensures { (result ≡ true) ↔ RowBytes c.now d.now t.now }
+// With a refusal no byte is written.
+fn entry_written(written: Result<usize, Refusal>) -> EntryWritten
+    requires { result_unwrap_or written 0 ≤ 1654 }
+    ensures { (result.number ≡ number_of written) × (result.row ≡ row_of written) × (result.length ≡ result_unwrap_or written 0) }
 {
-    if c.len() % 4 != 0 {
-        return false;
+    match written {
+        Ok(length) => EntryWritten {
+            number: 0,
+            row: 0,
+            length: length as u32,
+        },
+        Err(refusal) => EntryWritten {
+            number: refusal.number(),
+            row: refusal.row(),
+            length: 0,
+        },
     }
-    if d.len() != c.len() {
-        return false;
+}
+
+// The numbers of three byte strings that are lists of one length, 1 to 24 numbers of four bytes; others are refused before a number is read.
+fn read_lists(c: &[u8], d: &[u8], t: &[u8]) -> Result<Lists, Refusal>
+    ensures { IsRead c.now d.now t.now result }
+{
+    let bytes = c.len();
+    if bytes % 4 != 0 || d.len() != bytes || t.len() != bytes || bytes < 4 || 96 < bytes {
+        return Err(Refusal::RowsOutOfRange);
     }
-    if t.len() != c.len() {
-        return false;
-    }
-    if c.len() < 4 {
-        return false;
-    }
-    c.len() <= 96
+    let cs = numbers::read_numbers(c);
+    let ds = numbers::read_numbers(d);
+    let ts = numbers::read_numbers(t);
+    Ok(Lists {
+        n: bytes / 4,
+        c: cs,
+        d: ds,
+        t: ts,
+    })
 }
 
 // How many numbers an answer list of so many bytes has, no more than there can be rows.
 fn room(bytes: usize) -> usize
     ensures { result ≡ min 24 (bytes / 4) }
 {
-    let numbers = bytes / 4;
-    if 24 < numbers {
-        return 24;
-    }
-    numbers
+    (bytes / 4).min(24)
 }
 
-// The list service that finds allowances so.
-fn answer_lists(
-    by: AllowancesBy,
-    c: &[u32],
-    d: &[u32],
-    t: &[u32],
-    responses: &mut [u32],
-    allowances: &mut [u32],
-) -> Answer
-    ensures { Answered (allowance_by by) c.now d.now t.now responses.old allowances.old (returned_by result) responses.new allowances.new }
-{
-    match by {
-        AllowancesBy::Trial => sets::set_service(c, d, t, responses, allowances),
-        AllowancesBy::Points => sets::point_service(c, d, t, responses, allowances),
-    }
-}
-
-// The same with the answer lists as bytes: the service fills arrays, and their numbers are written only when it accepts.
-fn answer_in_bytes(
-    by: AllowancesBy,
+// The list service with the answer lists as bytes: it fills arrays, and their numbers are written only when it accepts.
+fn answer_in_bytes<F: FindAllowances>(
     c: &[u32],
     d: &[u32],
     t: &[u32],
     responses: &mut [u8],
     allowances: &mut [u8],
 ) -> Answer
-    ensures { AnsweredInBytes (allowance_by by) c.now d.now t.now responses.old allowances.old (returned_by result) responses.new allowances.new }
+    ensures { AnsweredInBytes F.allowance c.now d.now t.now responses.old allowances.old (returned_by result) responses.new allowances.new }
 {
     let mut response = [0u32; 24];
     let mut allowance = [0u32; 24];
     let r = room(responses.len());
     let a = room(allowances.len());
-    let answer = answer_lists(by, c, d, t, &mut response[..r], &mut allowance[..a]);
-    if answers::number_of(answer) != 0 {
-        return answer;
-    }
+    sets::list_service::<F>(c, d, t, &mut response[..r], &mut allowance[..a])?;
     let n = c.len();
     numbers::put_numbers(responses, &response[..n]);
     numbers::put_numbers(allowances, &allowance[..n]);
-    Answer::Accepted
+    Ok(())
 }
 
 // The same with all lists as bytes.
-fn answer_bytes(
-    by: AllowancesBy,
+fn answer_bytes<F: FindAllowances>(
     c: &[u8],
     d: &[u8],
     t: &[u8],
     responses: &mut [u8],
     allowances: &mut [u8],
 ) -> Answer
-    ensures { BytesAnswered (allowance_by by) c.now d.now t.now responses.old allowances.old (returned_by result) responses.new allowances.new }
+    ensures { BytesAnswered F.allowance c.now d.now t.now responses.old allowances.old (returned_by result) responses.new allowances.new }
 {
-    if !are_rows(c, d, t) {
-        return Answer::RowsOutOfRange;
-    }
-    let n = c.len() / 4;
-    let cs = numbers::read_numbers(c);
-    let ds = numbers::read_numbers(d);
-    let ts = numbers::read_numbers(t);
-    answer_in_bytes(by, &cs[..n], &ds[..n], &ts[..n], responses, allowances)
-}
-
-// The same with the answer as C takes it.
-fn answer_for_c(
-    by: AllowancesBy,
-    c: &[u8],
-    d: &[u8],
-    t: &[u8],
-    responses: &mut [u8],
-    allowances: &mut [u8],
-) -> EntryAnswer
-    ensures { ListsReturned (allowance_by by) c.now d.now t.now responses.old allowances.old result.number result.row responses.new allowances.new }
-{
-    entry_answer(answer_bytes(by, c, d, t, responses, allowances))
+    let lists = read_lists(c, d, t)?;
+    let n = lists.n;
+    answer_in_bytes::<F>(
+        &lists.c[..n],
+        &lists.d[..n],
+        &lists.t[..n],
+        responses,
+        allowances,
+    )
 }
 
 // The explanation of a row, with the lists as bytes.
-fn explain_bytes(c: &[u8], d: &[u8], t: &[u8], row: u32) -> Explanation
-    ensures { BytesExplained c.now d.now t.now row (returned_by result.answer) result.limiting result.point }
+fn explain_bytes(c: &[u8], d: &[u8], t: &[u8], row: u32) -> Result<Explanation, Refusal>
+    ensures { BytesExplained c.now d.now t.now row (returned_by result) (limiting_of result) (point_of result) }
 {
-    if !are_rows(c, d, t) {
-        return sets::unexplained(Answer::RowsOutOfRange);
-    }
-    let n = c.len() / 4;
-    let cs = numbers::read_numbers(c);
-    let ds = numbers::read_numbers(d);
-    let ts = numbers::read_numbers(t);
-    sets::explain(&cs[..n], &ds[..n], &ts[..n], row)
+    let lists = read_lists(c, d, t)?;
+    let n = lists.n;
+    sets::explain(&lists.c[..n], &lists.d[..n], &lists.t[..n], row)
 }
 
 // The table service.
@@ -196,7 +179,7 @@ fn explain_bytes(c: &[u8], d: &[u8], t: &[u8], row: u32) -> Explanation
 pub extern "C" fn hibalunduk_table(table: &[u8], report: &mut [u8]) -> EntryAnswer
     ensures { TableReturned table.now report.old result.number result.row report.new }
 {
-    entry_answer(tables::table_service(table, report))
+    EntryAnswer::from(tables::table_service(table, report))
 }
 
 // The set service.
@@ -210,7 +193,7 @@ pub extern "C" fn hibalunduk_set(
 ) -> EntryAnswer
     ensures { SetReturned c.now d.now t.now responses.old allowances.old result.number result.row responses.new allowances.new }
 {
-    answer_for_c(AllowancesBy::Trial, c, d, t, responses, allowances)
+    EntryAnswer::from(answer_bytes::<ByTrial>(c, d, t, responses, allowances))
 }
 
 // The point service.
@@ -224,7 +207,7 @@ pub extern "C" fn hibalunduk_point(
 ) -> EntryAnswer
     ensures { PointReturned c.now d.now t.now responses.old allowances.old result.number result.row responses.new allowances.new }
 {
-    answer_for_c(AllowancesBy::Points, c, d, t, responses, allowances)
+    EntryAnswer::from(answer_bytes::<ByPoints>(c, d, t, responses, allowances))
 }
 
 // The listing of a table: how many bytes were written; 0, and nothing is, where they do not fit.
@@ -232,7 +215,7 @@ pub extern "C" fn hibalunduk_point(
 pub extern "C" fn hibalunduk_listing(table: &[u8], listing: &mut [u8]) -> usize
     ensures { ListingReturned table.now listing.old result listing.new }
 {
-    tables::list_table(table, listing)
+    tables::list_table(table, listing).unwrap_or(0)
 }
 
 // The explanation of a row: which row limits it, and at which point.
@@ -240,15 +223,7 @@ pub extern "C" fn hibalunduk_listing(table: &[u8], listing: &mut [u8]) -> usize
 pub extern "C" fn hibalunduk_why(c: &[u8], d: &[u8], t: &[u8], row: u32) -> EntryExplanation
     ensures { WhyReturned c.now d.now t.now row result.number result.row result.limiting result.point }
 {
-    let explanation = explain_bytes(c, d, t, row);
-    let given = explanation.answer;
-    let answer = entry_answer(given);
-    EntryExplanation {
-        number: answer.number,
-        row: answer.row,
-        limiting: explanation.limiting,
-        point: explanation.point,
-    }
+    EntryExplanation::from(explain_bytes(c, d, t, row))
 }
 
 // The certificate of a spreadsheet's text on a number of cores: the text with three columns more.
