@@ -38,7 +38,13 @@ fn write_line<const N: usize>(text: &mut ArrayVec<u8, N>, row: Row, figures: Fig
     ensures length { array_vec_len text.new ≤ array_vec_len text.old + 67 }
 {
     write_fields(text, row.c, row.d, row.t, b',');
-    write_fields(text, figures.core, figures.response, figures.allowance, b'\r');
+    write_fields(
+        text,
+        figures.core,
+        figures.response,
+        figures.allowance,
+        b'\r',
+    );
     text.push(b'\n');
 }
 
