@@ -1,5 +1,5 @@
 -- A sum as it grows row by row to what all rows ask for, at most two million for each.
-use mathlib.Core.Path.{◌≡◌, refl, sym, ap, subst, ◌∙◌}
+use mathlib.Core.Path.{◌≡◌, refl, sym, ap, ◌∙◌}
 use Prim.Native.Nat.{ℕ, ◌+◌, ◌*◌, ◌≤◌, ◌<◌}
 use mathlib.Core.List.{List}
 use native.Mathlib.Numerals.{add-one}
@@ -21,25 +21,24 @@ pub none_asked : (cs ts : List ℕ) (time : ℕ) → AskedUpTo cs ts time 0 0
 unfolding demand_of
 none_asked cs ts time = record { within = omega arith; is_sum = refl; small = omega arith }
 
+-- the row that comes after the first j of two lists
+abbrev pub Turn : (cs ts : List ℕ) (j own period : ℕ) → Type 0
+Turn cs ts j own period = (j < length cs) × (j < length ts) × ((d : ℕ) → own ≡ get_or cs j d) × ((d : ℕ) → period ≡ get_or ts j d)
+
 module _ {cs ts : List ℕ} {time : ℕ} (rows : Small cs ts) (h : time ≤ 1_000_000) {j sum : ℕ} (so_far : AskedUpTo cs ts time j sum) where
   -- what the next row asks for, with m jobs
-  pub next_asked : j < length cs → {m : ℕ} → m ≡ ceil time (get_or ts j 0) → m * get_or cs j 0 ≤ 2_000_000
-  next_asked inside jobs =
-      subst (λ (n : ℕ). n * get_or cs j 0 ≤ 2_000_000) (sym jobs)
-      (ask_small time (get_or ts j 0) (get_or cs j 0) (rows.period_positive j inside) (rows.by_period j inside) (rows.by_million j inside) h)
+  pub next_asked : (own period : ℕ) {m : ℕ} → Turn cs ts j own period → m ≡ ceil time period → m * own ≤ 2_000_000
+  next_asked own period (inside, _, own_there, period_there) jobs =
+      let positive : 1 ≤ period = omega (arith, rows.period_positive j inside, period_there 0) in
+      rw jobs (ask_small time period own positive
+      (omega (arith, own_there 0, period_there 0, rows.by_period j inside)) (omega (arith, period_there 0, rows.by_million j inside)) h)
 
   -- one row more
-  pub one_more_asked : j < length cs → {m : ℕ} → m ≡ ceil time (get_or ts j 0) → AskedUpTo cs ts time (j + 1) (sum + m * get_or cs j 0)
-  one_more_asked inside {m} jobs = record {
-    within = omega arith;
-    is_sum = omega (
-      arith,
-      so_far.is_sum,
-      demand_of_one_more cs ts j time inside rows.as_many,
-      ap (λ (n : ℕ). n * get_or cs j 0) jobs,
-      ap (λ (n : ℕ). demand_of (take n cs) (take n ts) time) (add-one j),
-    );
-    small = omega (arith, so_far.small, next_asked inside jobs);
+  pub one_more_asked : (own period : ℕ) {m : ℕ} → Turn cs ts j own period → m ≡ ceil time period → AskedUpTo cs ts time (j + 1) (sum + m * own)
+  one_more_asked own period {m} turn jobs = record {
+    within = omega (arith, turn.0);
+    is_sum = rw (jobs, turn.2 0, turn.3 0, so_far.is_sum, add-one) (sym (demand_of_one_more cs ts j time turn.0 rows.as_many));
+    small = omega (arith, so_far.small, next_asked own period turn jobs);
   }
 
   -- all rows

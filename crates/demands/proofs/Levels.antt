@@ -3,7 +3,7 @@ use mathlib.Core.Path.{◌≡◌}
 use Prim.Native.Nat.{ℕ, zero, suc, ◌+◌, ◌-◌, ◌*◌, ◌/◌, ◌≤◌, ◌<◌}
 use mathlib.Core.List.{List, [], ◌∷◌}
 use native.Mathlib.Omega.{arith}
-use native.Mathlib.Nat.{mul-le-mul_left, div-mul-le_self}
+use native.Mathlib.Nat.{mul-le-mul_left, mul_comm, div-mul-le_self}
 use lib.ListN.{length, get_or, take}
 use Rattle.theory.specs.Response.{ceil}
 use Rattle.demands.specs.Levels.{demand_of}
@@ -22,3 +22,7 @@ pub ask_small : (t T C : ℕ) → 1 ≤ T → C ≤ T → T ≤ 1_000_000 → t 
 unfolding ceil
 ask_small t T C positive by_period by_million h =
     omega (arith, mul-le-mul_left ((t + (T - 1)) / T) by_period, div-mul-le_self (t + (T - 1)) T)
+
+-- what a raise of at most its period asks for up to a million ticks is at most two million
+pub raise_small : (a period t : ℕ) → a ≤ period → 1 ≤ period → period ≤ 1_000_000 → t ≤ 1_000_000 → a * ceil t period ≤ 2_000_000
+raise_small a period t by_period positive by_million h = omega (arith, ask_small t period a positive by_period by_million h, mul_comm a (ceil t period))

@@ -1,2 +1,3 @@
--- Rows above another, as lists of C and T.
+-- Rows above another, as lists of C and T, and the loads with them.
 pub mod Levels
+pub mod Loads
