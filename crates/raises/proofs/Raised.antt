@@ -1,21 +1,17 @@
 -- The load with a raise grows with time and with the raise, so there is room with less where there is with more, and a response time with less is a start
 -- for the climb with more.
 use mathlib.Core.Path.{◌≡◌, fun_ext}
-use Prim.Native.Nat.{ℕ, ◌*◌, ◌≤◌}
+use Prim.Native.Nat.{ℕ, ◌≤◌}
 use mathlib.Core.List.{List}
 use native.Mathlib.Omega.{arith}
-use native.Mathlib.Nat.{le_trans, mul_comm, mul-le-mul_left, mul-le-mul_right, zero-mul}
+use native.Mathlib.Nat.{le_trans, mul-le-mul_left, mul-le-mul_right, zero-mul}
 use Rattle.theory.specs.Response.{ceil}
 use Rattle.theory.specs.Climb.{RoomAt, LeastRoom, Start}
 use Rattle.theory.proofs.Ceil.{ceil_mono}
 use Rattle.demands.specs.Levels.{load_of}
-use Rattle.demands.proofs.Levels.{ask_small}
 use Rattle.climbs.proofs.Load.{load_of_mono}
-use Rattle.raises.specs.Raise.{raised_load, RoomBy}
-
--- what a raise of at most its period asks for up to a million ticks is at most two million
-pub raise_small : (a period t : ℕ) → a ≤ period → 1 ≤ period → period ≤ 1_000_000 → t ≤ 1_000_000 → a * ceil t period ≤ 2_000_000
-raise_small a period t by_period positive by_million h = omega (arith, ask_small t period a positive by_period by_million h, mul_comm a (ceil t period))
+use Rattle.demands.specs.Loads.{raised_load}
+use Rattle.raises.specs.Raise.{RoomBy}
 
 module _ (own : ℕ) (cs ts : List ℕ) (period : ℕ) where
   -- the load with a raise

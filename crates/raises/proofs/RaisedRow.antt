@@ -24,7 +24,8 @@ use Rattle.demands.specs.Levels.{load_of}
 use Rattle.climbs.proofs.ByRank.{above_of_lists}
 use Rattle.climbs.proofs.InLists.{in_rows, period_of, ranked, ranked_in_lists, ranked_above}
 use Rattle.climbs.proofs.AtRank.{InRankOrder, entry_at_rank, load_at_rank}
-use Rattle.raises.specs.Raise.{raised_load, RoomBy}
+use Rattle.demands.specs.Loads.{raised_load}
+use Rattle.raises.specs.Raise.{RoomBy}
 
 -- how a row and one that its load counts stand in lists: the row's load is the load over them, and it counts the other once for each job of a period
 pub record Counted (rows : List Row) (k s own : ℕ) (cs ts : List ℕ) (period : ℕ) : Type 0 where

@@ -11,10 +11,6 @@ pub record InRounds (next : ℕ → ℕ) (rounds at left : ℕ) : Type 0 where
   pub starts : Start next at
   pub taken : rounds < at + left
 
--- it begins at a start with all its rounds
-pub rounds_begin : {next : ℕ → ℕ} {at : ℕ} (rounds : ℕ) → Start next at → InRounds next rounds at rounds
-rounds_begin rounds start = record { starts = start; taken = omega (arith, start.from_one) }
-
 module _ {next : ℕ → ℕ} {rounds at left : ℕ} (so_far : InRounds next rounds at left) where
   -- a round that does not repeat the value takes it up
   pub rounds_go_on : ((s t : ℕ) → s ≤ t → next s ≤ next t) → 1 ≤ left → (next at ≡ at → ⊥) → InRounds next rounds (next at) (left - 1)
@@ -22,7 +18,3 @@ module _ {next : ℕ → ℕ} {rounds at left : ℕ} (so_far : InRounds next rou
     starts = start_again next mono at so_far.starts;
     taken = omega (arith, so_far.taken, rises_on so_far.starts other);
   }
-
-  -- with none left and the limit not passed, they were fewer than the limit
-  pub rounds_run_out : {limit : ℕ} → left ≡ 0 → at ≤ limit → rounds < limit
-  rounds_run_out none below = omega (arith, so_far.taken)
