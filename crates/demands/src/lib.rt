@@ -27,7 +27,8 @@ pub fn demand(c: &[u32], t: &[u32], time: u32) -> u32
     ensures { (result ≡ demand_of c.now t.now time) × (result ≤ 48_000_000) }
 {
     let mut sum = 0;
-    for (own, period) in c.iter().zip(t) {
+    // Cut to the length of C, the list of T ends with it, and a round has one end to look for.
+    for (own, period) in c.iter().zip(&t[..c.len()]) {
         sum += jobs(time, *period) * *own;
     }
     sum
