@@ -1,4 +1,4 @@
--- C and T of a set's rows gathered by rank: what stands before a row are its rivals' numbers, so its load is the load over them.
+-- C and T of a set's rows by rank: what stands before a row are its rivals' numbers, so its load is the load over them.
 use mathlib.Core.Path.{◌≡◌, refl, sym, ◌∙◌, ap}
 use Prim.Native.Nat.{ℕ, zero, suc, ◌≤◌, ◌<◌}
 use mathlib.Core.Bool.{Bool, true, false}
@@ -6,18 +6,16 @@ use mathlib.Core.List.{List, [], ◌∷◌, map}
 use native.Mathlib.Omega.{arith}
 use lib.Dec.{T}
 use lib.ListN.{length, get_or, take}
-use lib.Seq.{take-take, get_or-take}
-use Rattle.theory.specs.Row.{AllWithin}
 use Rattle.theory.specs.Gather.{keep}
 use Rattle.theory.specs.Response.{load}
 use Rattle.theory.specs.Lists.{Shaped, rows_of}
 use Rattle.theory.proofs.Each.{true_of}
 use Rattle.theory.proofs.Kept.{keep_passes_first, keep_fails_first}
-use Rattle.demands.specs.Levels.{load_of, Small}
-use Rattle.climbs.specs.Ranking.{above_by, ranking_by, rivals_in}
+use Rattle.demands.specs.Levels.{load_of}
+use Rattle.climbs.specs.Ranking.{above_by, ranking_by, rivals_in, InRankOrder}
 use Rattle.climbs.proofs.ByRank.{length_ranking}
 use Rattle.climbs.proofs.InLists.{ranked, ranked_above, ranked_before}
-use Rattle.climbs.proofs.Load.{rival_entries, entry_at, load_of_rivals, small_rivals}
+use Rattle.climbs.proofs.Load.{rival_entries, entry_at, load_of_rivals}
 
 -- a test that is not passed is false
 false_of : (b : Bool) → (T b → ⊥) → b ≡ false
@@ -44,18 +42,6 @@ take_of_map f zero xs = refl
 take_of_map f (suc j) [] = refl
 take_of_map f (suc j) (x ∷ xs) = ap (λ (ys : List ℕ). f x ∷ ys) (take_of_map f j xs)
 
--- an array has at its front the entries of a list for the rows by rank
-abbrev pub InRankOrder : List ℕ → List ℕ → List ℕ → Type 0
-InRankOrder ds xs array = take (length ds) array ≡ map (λ h. get_or xs h 0) (ranking_by ds)
-
--- so has one into which they are gathered at the places of an order by rank
-pub gathered_in_rank_order : (ds order xs array : List ℕ) (n : ℕ) → n ≡ length ds → take (length ds) order ≡ ranking_by ds
-    → take (length (take n order)) array ≡ map (λ h. get_or xs h 0) (take n order)
-    → InRankOrder ds xs array
-gathered_in_rank_order ds order xs array n all by_rank gathered =
-    let first : take n order ≡ ranking_by ds = ap (λ (m : ℕ). take m order) all ∙ by_rank in
-    ap (λ (m : ℕ). take m array) (sym (ap length first ∙ length_ranking ds)) ∙ gathered ∙ ap (map (λ h. get_or xs h 0)) first
-
 module _ (cs ds ts : List ℕ) (shaped : Shaped cs ds ts) (j : ℕ) (inside : j < length cs) where
   abbrev k : ℕ
   k = ranked cs ds ts shaped j
@@ -72,25 +58,19 @@ module _ (cs ds ts : List ℕ) (shaped : Shaped cs ds ts) (j : ℕ) (inside : j 
       not_above p h l = false_of _ (λ above. omega (arith, ranked_before cs ds ts shaped p j l above))
 
   -- so what stands before it in rank order are its rivals' entries
-  pub before_are_rivals : (xs array : List ℕ) → InRankOrder ds xs array → take j array ≡ rival_entries xs ds k
-  before_are_rivals xs array in_order =
-      sym (take-take j (length ds) array (omega (arith, shaped.as_many_deadlines)))
-      ∙ ap (take j) in_order
+  pub before_are_rivals : (xs list : List ℕ) → InRankOrder ds xs list → take j list ≡ rival_entries xs ds k
+  before_are_rivals xs list in_order =
+      ap (take j) in_order
       ∙ take_of_map (λ h. get_or xs h 0) j (ranking_by ds)
       ∙ ap (map (λ h. get_or xs h 0)) (sym rivals_at_rank)
 
   -- and at its place stands its own
-  pub entry_at_rank : (xs array : List ℕ) → InRankOrder ds xs array → get_or array j 0 ≡ get_or xs k 0
-  entry_at_rank xs array in_order =
-      sym (get_or-take (length ds) array j 0 (omega (arith, shaped.as_many_deadlines)))
-      ∙ ap (λ (ys : List ℕ). get_or ys j 0) in_order
+  pub entry_at_rank : (xs list : List ℕ) → InRankOrder ds xs list → get_or list j 0 ≡ get_or xs k 0
+  entry_at_rank xs list in_order =
+      ap (λ (ys : List ℕ). get_or ys j 0) in_order
       ∙ entry_at xs (ranking_by ds) j (omega (arith, length_ranking ds, shaped.as_many_deadlines))
 
   module _ (executions periods : List ℕ) (by_C : InRankOrder ds cs executions) (by_T : InRankOrder ds ts periods) where
     -- its load is the load over what stands before it
     pub load_at_rank : load_of (get_or executions j 0) (take j executions) (take j periods) ≡ load (rows_of cs ds ts) k
     load_at_rank = rw (entry_at_rank cs executions by_C, before_are_rivals cs executions by_C, before_are_rivals ts periods by_T) (load_of_rivals cs ds ts shaped k)
-
-    -- and no sum over it is large
-    pub small_at_rank : AllWithin (rows_of cs ds ts) → Small (take j executions) (take j periods)
-    small_at_rank within = rw (before_are_rivals cs executions by_C, before_are_rivals ts periods by_T) (small_rivals cs ds ts shaped within k)

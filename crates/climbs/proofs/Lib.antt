@@ -7,3 +7,4 @@ pub mod InLists
 pub mod AtRank
 pub mod After
 pub mod StandByRank
+pub mod RowAtRank

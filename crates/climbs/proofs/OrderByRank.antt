@@ -9,6 +9,10 @@ use Rattle.theory.proofs.Each.{all_map}
 use Rattle.climbs.specs.Ranking.{ranking_by}
 use Rattle.climbs.proofs.ByRank.{ranking_inside, mem_ranking, length_ranking}
 
+-- the places by rank that an order begins with are below as many as there are rows
+pub places_below : (ds order : List ℕ) {n : ℕ} → take (length ds) order ≡ ranking_by ds → length ds ≤ n → All (λ h. h < n) (take (length ds) order)
+places_below ds order by_rank fits = rw by_rank (all_map (ranking_by ds) (λ h inside. omega arith) (ranking_inside ds))
+
 module _ (cs ds order : List ℕ) (same : length ds ≡ length cs) (ranked : take (length ds) order ≡ ranking_by ds) where
   -- the first entries, one for each row, are the places by rank
   first_ranked : take (length cs) order ≡ ranking_by ds

@@ -1,51 +1,38 @@
--- A set's rows in lists, with their C and T by rank at the front of two arrays: the numbers of the row at a place, its load over what stands before it, and
--- where its climb may start when the rows are climbed one after another.
-use mathlib.Core.Path.{◌≡◌, refl, sym, ◌∙◌}
+-- A set's rows by rank: they are rows within the limits too, each loaded by those before it as in the set; and where a climb may start when they are climbed one
+-- after another.
+use mathlib.Core.Path.{◌≡◌, refl, sym, ◌∙◌, ap, subst}
 use Prim.Native.Nat.{ℕ, ◌+◌, ◌≤◌, ◌<◌, zero-le}
-use mathlib.Core.List.{List, map}
+use mathlib.Core.List.{List}
 use native.Mathlib.Omega.{arith}
 use native.Mathlib.Numerals.{add-one}
-use lib.ListN.{length, get_or, take}
+use lib.ListN.{length, get_or, take, length-map}
 use Rattle.theory.specs.Row.{AllWithin, WithinLimits}
 use Rattle.theory.specs.Response.{load}
 use Rattle.theory.specs.Climb.{LeastRoom, Start}
 use Rattle.theory.specs.Lists.{rows_of, Shaped}
+use Rattle.theory.proofs.RowsOf.{rows_of_length, row_of_lists}
 use Rattle.demands.specs.Levels.{load_of, Small}
-use Rattle.climbs.specs.Ranking.{ranking_by}
-use Rattle.climbs.proofs.Load.{limits_at}
+use Rattle.climbs.specs.Ranking.{ranking_by, InRankOrder, StandByRank}
+use Rattle.climbs.proofs.ByRank.{length_ranking}
+use Rattle.climbs.proofs.Load.{limits_at, small_above}
 use Rattle.climbs.proofs.InLists.{ranked, ranked_in_lists}
-use Rattle.climbs.proofs.AtRank.{InRankOrder, gathered_in_rank_order, load_at_rank, small_at_rank, entry_at_rank}
+use Rattle.climbs.proofs.AtRank.{load_at_rank, entry_at_rank}
 use Rattle.climbs.proofs.After.{RespondsBefore, start_after}
 
-pub record StandByRank (cs ds ts executions periods : List ℕ) : Type 0 where
-  pub shaped : Shaped cs ds ts
-  pub within : AllWithin (rows_of cs ds ts)
-  pub by_C : InRankOrder ds cs executions
-  pub by_T : InRankOrder ds ts periods
-  pub executions_long : length executions ≡ 24
-  pub periods_long : length periods ≡ 24
+-- rows of which C, D and T are in the order of rank
+pub set_stands :
+    {cs ds ts executions deadlines periods : List ℕ}
+    → Shaped cs ds ts
+    → AllWithin (rows_of cs ds ts)
+    → InRankOrder ds cs executions
+    → InRankOrder ds ds deadlines
+    → InRankOrder ds ts periods
+    → StandByRank cs ds ts executions deadlines periods
+set_stands shaped within by_C by_D by_T = record { shaped = shaped; within = within; by_C = by_C; by_D = by_D; by_T = by_T }
 
--- so stand rows of which C and T are gathered at the places of an order by rank
-pub gathered_stand :
-    {cs ds ts executions periods : List ℕ}
-    (order : List ℕ)
-    → Shaped cs ds ts × AllWithin (rows_of cs ds ts)
-    → take (length ds) order ≡ ranking_by ds
-    → take (length (take (length cs) order)) executions ≡ map (λ h. get_or cs h 0) (take (length cs) order)
-    → length executions ≡ 24
-    → take (length (take (length cs) order)) periods ≡ map (λ h. get_or ts h 0) (take (length cs) order)
-    → length periods ≡ 24
-    → StandByRank cs ds ts executions periods
-gathered_stand {cs} {ds} {ts} {executions} {periods} order rows by_rank of_cs executions_long of_ts periods_long =
-    let many = sym rows.0.as_many_deadlines in
-    record {
-      shaped = rows.0;
-      within = rows.1;
-      by_C = gathered_in_rank_order ds order cs executions (length cs) many by_rank of_cs;
-      by_T = gathered_in_rank_order ds order ts periods (length cs) many by_rank of_ts;
-      executions_long = executions_long;
-      periods_long = periods_long;
-    }
+-- by rank there are as many numbers as rows
+pub length_by_rank : (ds xs list : List ℕ) → InRankOrder ds xs list → length list ≡ length ds
+length_by_rank ds xs list in_order = ap length in_order ∙ length-map (ranking_by ds) (λ h. get_or xs h 0) ∙ length_ranking ds
 
 -- the row before place j responds at r, within a million; r is 0 before the first
 pub record Following (executions periods : List ℕ) (j r : ℕ) : Type 0 where
@@ -55,7 +42,7 @@ pub record Following (executions periods : List ℕ) (j r : ℕ) : Type 0 where
 pub following_begins : (executions periods : List ℕ) → Following executions periods 0 0
 following_begins executions periods = record { responds_before = λ same. refl; by_million = zero-le }
 
-module _ {cs ds ts executions periods : List ℕ} (stand : StandByRank cs ds ts executions periods) where
+module _ {cs ds ts executions deadlines periods : List ℕ} (stand : StandByRank cs ds ts executions deadlines periods) where
   -- the row at a place by rank
   abbrev at : ℕ → ℕ
   at = ranked cs ds ts stand.shaped
@@ -71,6 +58,29 @@ module _ {cs ds ts executions periods : List ℕ} (stand : StandByRank cs ds ts 
   pub period_by_rank : (p : ℕ) → p < length cs → get_or periods p 0 ≡ get_or ts (at p) 0
   period_by_rank p h = entry_at_rank cs ds ts stand.shaped p h ts periods stand.by_T
 
+  pub deadline_by_rank : (p : ℕ) → p < length cs → get_or deadlines p 0 ≡ get_or ds (at p) 0
+  deadline_by_rank p h = entry_at_rank cs ds ts stand.shaped p h ds deadlines stand.by_D
+
+  -- there are as many as rows
+  pub as_many_by_rank : length executions ≡ length cs
+  as_many_by_rank = length_by_rank ds cs executions stand.by_C ∙ stand.shaped.as_many_deadlines
+
+  -- so they are rows, within the limits
+  pub shaped_by_rank : Shaped executions deadlines periods
+  shaped_by_rank = record {
+    some_row = omega (arith, as_many_by_rank, stand.shaped.some_row);
+    no_25th = omega (arith, as_many_by_rank, stand.shaped.no_25th);
+    as_many_deadlines = omega (arith, as_many_by_rank, length_by_rank ds ds deadlines stand.by_D, stand.shaped.as_many_deadlines);
+    as_many_periods = omega (arith, as_many_by_rank, length_by_rank ds ts periods stand.by_T, stand.shaped.as_many_deadlines);
+  }
+
+  pub within_by_rank : AllWithin (rows_of executions deadlines periods)
+  within_by_rank k h =
+      let shaped = shaped_by_rank in
+      let inside : k < length cs = omega (arith, as_many_by_rank, rows_of_length executions deadlines periods shaped.as_many_deadlines shaped.as_many_periods) in
+      subst WithinLimits (sym (row_of_lists executions deadlines periods shaped.as_many_deadlines shaped.as_many_periods k))
+      (rw (execution_by_rank k inside, deadline_by_rank k inside, period_by_rank k inside) (limits_by_rank k inside))
+
   -- each C that stands there is from 1 to a million
   pub execution_within : (p : ℕ) → p < length cs → (1 ≤ get_or executions p 0) × (get_or executions p 0 ≤ 1_000_000)
   execution_within p h = (omega (arith, execution_by_rank p h, limits_by_rank p h), omega (arith, execution_by_rank p h, limits_by_rank p h))
@@ -85,13 +95,13 @@ module _ {cs ds ts executions periods : List ℕ} (stand : StandByRank cs ds ts 
 
     -- no sum over it is large
     pub small_before : Small (take j executions) (take j periods)
-    small_before = small_at_rank cs ds ts stand.shaped j inside executions periods stand.by_C stand.by_T stand.within
+    small_before = small_above executions deadlines periods shaped_by_rank within_by_rank j
 
     -- its climb may start its own time after the response time of the row before
     pub start_following : (r : ℕ) → Following executions periods j r → Start load_at_place (r + get_or executions j 0)
     start_following r following =
-        let same : length periods ≡ length executions = stand.periods_long ∙ sym stand.executions_long in
-        start_after executions periods same j (get_or executions j 0) r (omega (arith, stand.executions_long, stand.shaped.no_25th)) small_before
+        let same : length periods ≡ length executions = shaped_by_rank.as_many_periods in
+        start_after executions periods same j (get_or executions j 0) r (omega (arith, as_many_by_rank)) small_before
         (λ i h. (execution_within i (omega arith)).0) (execution_within j inside).0 (following.responds_before same)
 
     -- where it responds by its deadline, it is the row before the next place

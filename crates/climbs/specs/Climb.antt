@@ -1,9 +1,8 @@
 -- The outcome of a climb, as the code's answer.
+use Rattle.std.specs.Prelude.{ℕ, Option, Some, None}
 use Rattle.theory.specs.Response.{Outcome, responds, misses}
-use Rattle.climbs.specs.declared.Climb.{Climb}
-use Rattle.climbs.specs.declared.Climb.TheVariants.{Responds, Misses}
 
 -- the outcome that an answer of the climb is
-abbrev pub outcome_of : Climb → Outcome
-outcome_of (Responds R) = responds R
-outcome_of Misses = misses
+abbrev pub outcome_of : Option ℕ → Outcome
+outcome_of (Some R) = responds R
+outcome_of None = misses
