@@ -23,7 +23,8 @@ use Rattle.theory.proofs.Rank.{rival_irreflexive}
 use Rattle.demands.specs.Levels.{load_of}
 use Rattle.climbs.proofs.ByRank.{above_of_lists}
 use Rattle.climbs.proofs.InLists.{in_rows, period_of, ranked, ranked_in_lists, ranked_above}
-use Rattle.climbs.proofs.AtRank.{InRankOrder, entry_at_rank, load_at_rank}
+use Rattle.climbs.specs.Ranking.{InRankOrder}
+use Rattle.climbs.proofs.AtRank.{entry_at_rank, load_at_rank}
 use Rattle.demands.specs.Loads.{raised_load}
 use Rattle.raises.specs.Raise.{RoomBy}
 
