@@ -93,7 +93,7 @@ module _ (cs ds ts : List ℕ) (shaped : Shaped cs ds ts) where
             (meets s.place (order_cases s.place j) s.inside (subst (λ (x : ℕ). T (above_by ds x k)) (sym s.there) (above_by_lem h t)))
 
   -- after all rows each has its response time
-  pub answering_ends : (response : List ℕ) (j : ℕ) → Answering response j → length cs ≤ j → (k : ℕ) → k < length (rows_of cs ds ts) → RespondsInTime (rows_of cs ds ts) response k
-  answering_ends response j a past k inside =
-      let s : Ranked cs ds ts shaped k = rank_of cs ds ts shaped k (in_lists cs ds ts shaped inside) in
+  pub answering_ends : {response : List ℕ} {j : ℕ} → Answering response j → length cs ≤ j → (k : ℕ) → k < length cs → RespondsInTime (rows_of cs ds ts) response k
+  answering_ends {response} a past k inside =
+      let s : Ranked cs ds ts shaped k = rank_of cs ds ts shaped k inside in
       subst (RespondsInTime (rows_of cs ds ts) response) s.there (a.answered s.place (omega (arith, s.inside)))

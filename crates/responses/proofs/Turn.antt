@@ -1,30 +1,71 @@
--- The climb of a turn, over the rows by rank, is that of the row that stands there.
+-- A turn of the climbs by rank: what the climb of the row there comes to is what the set's row comes to.
 use mathlib.Core.Path.{◌≡◌}
-use Prim.Native.Nat.{ℕ, ◌<◌}
+use Prim.Native.Nat.{ℕ, ◌+◌, ◌≤◌, ◌<◌}
 use mathlib.Core.List.{List}
-use lib.ListN.{length, get_or, take}
-use Rattle.theory.specs.Row.{row_at}
-use Rattle.theory.specs.Response.{Outcome, load}
+use native.Mathlib.Omega.{arith}
+use lib.ListN.{length, get_or, set}
+use Rattle.theory.specs.Response.{responds, misses, FirstMiss}
 use Rattle.theory.specs.Climb.{Climbed}
-use Rattle.theory.specs.Lists.{rows_of}
-use Rattle.demands.specs.Levels.{load_of}
+use Rattle.demands.specs.Loads.{load_in}
+use Rattle.demands.specs.declared.ranked.RankedRow.{RankedRow}
+use Rattle.rows.specs.Values.{rows_in}
+use Rattle.rows.specs.declared.Rows.{Rows}
 use Rattle.climbs.specs.Ranking.{ranking_by}
-use Rattle.climbs.proofs.InLists.{deadline_of, ranked, order_ranked}
-use Rattle.climbs.proofs.StandByRank.{StandByRank, load_here}
+use Rattle.climbs.specs.Placed.{AreByRank, IsRowAt}
+use Rattle.climbs.specs.declared.ranked_set.RankedSet.{RankedSet}
+use Rattle.climbs.proofs.InLists.{order_ranked, order_in_lists}
+use Rattle.climbs.proofs.StandByRank.{Following, as_many_by_rank}
+use Rattle.climbs.proofs.RowAtRank.{climb_of_row, following_of_row}
+use Rattle.responses.specs.Verdict.{RespondsInTime}
+use Rattle.responses.proofs.Answering.{Answering, answering_more, answering_stops, answering_ends}
 
-module _
-    {cs ds ts executions periods : List ℕ}
-    (stand : StandByRank cs ds ts executions periods)
-    (order : List ℕ)
-    (by_rank : take (length ds) order ≡ ranking_by ds)
-    {j : ℕ}
-    (inside : j < length cs) where
-  pub row_ranked : get_or order j 0 ≡ ranked cs ds ts stand.shaped j
-  row_ranked = order_ranked cs ds ts stand.shaped order by_rank j inside
+-- the first j rows by rank have their response times, and `before` is that of the last of them
+pub record TurnsTo (ranked : RankedSet) (by_rank : Rows) (response : List ℕ) (before j : ℕ) : Type 0 where
+  pub so_far : Answering ranked.rows.c.now ranked.rows.d.now ranked.rows.t.now ranked.rows.shaped response j
+  pub following : Following by_rank.c.now by_rank.t.now j before
 
-  module _ (outcome : Outcome) (climbed : Climbed (load_of (get_or executions j 0) (take j executions) (take j periods)) (get_or ds (get_or order j 0) 0) outcome) where
-    pub climb_at_rank : Climbed (load_of (get_or executions j 0) (take j executions) (take j periods)) (get_or ds (ranked cs ds ts stand.shaped j) 0) outcome
-    climb_at_rank = rw row_ranked at climbed
+module _ (ranked : RankedSet) (by_rank : Rows) (stand : AreByRank ranked.rows by_rank) (j : ℕ) (within : j < length by_rank.c.now) {row : RankedRow} (here : IsRowAt by_rank j row) where
+  inside : j < length ranked.rows.c.now
+  inside = omega (arith, as_many_by_rank stand)
 
-    pub climb_of_row : Climbed (load (rows_of cs ds ts) (ranked cs ds ts stand.shaped j)) (row_at (rows_of cs ds ts) (ranked cs ds ts stand.shaped j)).D outcome
-    climb_of_row = rw (deadline_of cs ds ts stand.shaped (ranked cs ds ts stand.shaped j), ← load_here stand j inside) climb_at_rank
+  -- the place of the row in the set
+  place : get_or ranked.order j 0 ≡ get_or (ranking_by ranked.rows.d.now) j 0
+  place = let rows = ranked.rows in order_ranked rows.c.now rows.d.now rows.t.now rows.shaped ranked.order ranked.ranked j inside
+
+  -- it is below 24
+  pub place_fits : get_or ranked.order j 0 < 24
+  place_fits = let rows = ranked.rows in omega (arith, rows.shaped.no_25th, order_in_lists rows.c.now rows.d.now rows.t.now rows.shaped ranked.order ranked.ranked j inside)
+
+  -- it responds
+  pub turn_responds : {response : List ℕ} {before : ℕ} → TurnsTo ranked by_rank response before j
+      → (r : ℕ)
+      → Climbed (load_in row) row.limit (responds r)
+      → TurnsTo ranked by_rank (set response (get_or ranked.order j 0) r) r (j + 1)
+  turn_responds {response} turns r climbed =
+      let rows = ranked.rows in record {
+        so_far =
+            rw place
+            (answering_more rows.c.now rows.d.now rows.t.now rows.shaped response j turns.so_far inside r
+            (climb_of_row rows by_rank stand j inside here (responds r) climbed));
+        following = following_of_row rows by_rank stand j inside here climbed.0 climbed.1;
+      }
+
+  -- it misses
+  pub turn_misses : {response : List ℕ} {before : ℕ} → TurnsTo ranked by_rank response before j → Climbed (load_in row) row.limit misses → FirstMiss (rows_in ranked.rows) (get_or ranked.order j 0)
+  turn_misses {response} turns climbed =
+      let rows = ranked.rows in
+      rw place
+      (answering_stops rows.c.now rows.d.now rows.t.now rows.shaped response j turns.so_far inside
+      (climb_of_row rows by_rank stand j inside here misses climbed))
+
+-- after all turns each row of the set has its response time
+pub turns_end : (ranked : RankedSet) (by_rank : Rows) → AreByRank ranked.rows by_rank
+    → {response : List ℕ} {before j : ℕ}
+    → TurnsTo ranked by_rank response before j
+    → length by_rank.c.now ≤ j
+    → (k : ℕ)
+    → k < length ranked.rows.c.now
+    → RespondsInTime (rows_in ranked.rows) response k
+turns_end ranked by_rank stand turns past =
+    let rows = ranked.rows in
+    answering_ends rows.c.now rows.d.now rows.t.now rows.shaped turns.so_far (omega (arith, as_many_by_rank stand))

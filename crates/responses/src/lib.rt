@@ -1,63 +1,28 @@
 // The response time of each row of a set, or the highest-ranked row that misses: document 01, "Rank and response time".
 #![tactic(auto)]
 
-ghost use Rattle.std.specs.Prelude.{◌≡◌, length, take};
-ghost use Rattle.theory.specs.Row.{AllWithin};
-ghost use Rattle.theory.specs.Lists.{Shaped, rows_of};
-ghost use Rattle.climbs.specs.Ranking.{ranking_by};
-ghost use Rattle.responses.specs.Verdict.{IsVerdict};
+ghost use Rattle.responses.specs.Found.{IsVerdict};
 
-use climbs::Climb;
+mod timed;
 
-// Whether all rows are on time, or the place of the highest-ranked row that misses.
-#[derive(Drop)]
-pub enum Verdict {
-    OnTime,
-    Late(usize),
-}
+use climbs::RankedSet;
+pub use timed::{Miss, Timed};
 
-// A verdict, and where it is on time the response time of each row at its place.
-#[derive(Drop)]
-pub struct Found {
-    pub verdict: Verdict,
-    pub response: [u32; 24],
-}
-
-// The response time of each row, or the highest-ranked row that misses.
-pub fn responses_of(c: &[u32], d: &[u32], t: &[u32], order: &[usize; 24]) -> Found
-    requires shaped { Shaped c.now d.now t.now × AllWithin (rows_of c.now d.now t.now) }
-    requires order_value { take (length d.now) order.now ≡ ranking_by d.now }
-    ensures verdict { IsVerdict (rows_of c.now d.now t.now) result.response result.verdict }
-    ensures response_len { length result.response ≡ 24 }
+// The response time of each row, or the highest-ranked row that misses. A climb starts its row's own time after the response time of the row before.
+pub fn responses_of(set: RankedSet<'_>) -> Result<Timed<'_>, Miss>
+    ensures { IsVerdict set.entry result }
 {
-    let n = c.len();
-    let places: &[usize] = order;
-    let by_rank = &places[..n];
-    let cs = climbs::gather(c, by_rank);
-    let ts = climbs::gather(t, by_rank);
+    let by_rank = set.by_rank();
     let mut response = [0u32; 24];
-    // The response time of the row before.
     let mut before = 0;
-    let mut j = 0;
-    while j < n {
-        let k = order[j];
-        let own = cs[j];
-        match climbs::climb_from(before + own, d[k], own, &cs[..j], &ts[..j]) {
-            Climb::Responds(r) => {
-                response[k] = r;
-                before = r;
-            }
-            Climb::Misses => {
-                return Found {
-                    verdict: Verdict::Late(k),
-                    response,
-                };
-            }
-        }
-        j += 1;
+    for j in 0..by_rank.c.len() {
+        let row = climbs::row_at(&by_rank, j);
+        let k = set.order[j];
+        let Some(r) = climbs::climb_from(before + row.own, &row) else {
+            return Err(Miss { row: k });
+        };
+        response[k] = r;
+        before = r;
     }
-    Found {
-        verdict: Verdict::OnTime,
-        response,
-    }
+    Ok(Timed { set, response })
 }
