@@ -67,9 +67,6 @@ module _ {b : ℤ} (in-range : InRange b) {m : ℕ} (within : (1 ≤ m) × (m �
   next_small : mag (b +ℤ pos 1) ≤ 50_000_000
   next_small = rw (+ℤ_one b) (omega (arith, next_mag b, range_mag b in-range))
 
-  pub next_fits : SFits w64 (held b +ℤ pos 1)
-  next_fits = rw next_is (record { sfits = omega (arith, next_small) })
-
   -- times the jobs
   product_is : held (held b +ℤ pos 1) *ℤ held jobs ≡ (b +ℤ pos 1) *ℤ pos m
   product_is =
@@ -81,9 +78,6 @@ module _ {b : ℤ} (in-range : InRange b) {m : ℕ} (within : (1 ≤ m) × (m �
   product_small = record {
     sfits = omega (arith, product_mag (b +ℤ pos 1) m, mul-le-mul_right m (suc-le-suc next_small), mul-le-mul_left 50_000_001 within.1);
   }
-
-  pub product_fits : SFits w64 (held (held b +ℤ pos 1) *ℤ held jobs)
-  product_fits = rw product_is product_small
 
   -- the test says whether the quotient is greater
   pub says_whether : {z : ℤ} → SFits w64 z

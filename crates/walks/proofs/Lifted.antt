@@ -1,5 +1,5 @@
 -- The entries of a list lifted at a point, one after the other, each to what a function of its own gives there.
-use mathlib.Core.Path.{◌≡◌, refl, sym, ap, subst, ◌∙◌}
+use mathlib.Core.Path.{◌≡◌, refl, ◌∙◌}
 use Prim.Native.Nat.{ℕ, ◌+◌, ◌≤◌, ◌<◌}
 use mathlib.Core.Bool.{Bool, true, false}
 use mathlib.Core.List.{List}
@@ -18,30 +18,21 @@ pub record LiftedUpTo (value : ℕ → ℕ → ℤ) (p j : ℕ) (before after : 
   pub lifted : (k : ℕ) → k < j → LiftedTo (value k) (λ x. x ≡ p) (get_or before k (pos 0)) (get_or after k (pos 0))
   pub as_before : (k : ℕ) → j ≤ k → get_or after k (pos 0) ≡ get_or before k (pos 0)
 
--- no entry
-pub none_lifted : (value : ℕ → ℕ → ℤ) (p : ℕ) (before : List ℤ) → LiftedUpTo value p 0 before before
-none_lifted value p before = record { as_long = refl; lifted = λ k h. absurd (omega arith); as_before = λ k h. refl }
-
 -- one entry more
-pub one_more_lifted : (value : ℕ → ℕ → ℤ) (p j : ℕ) (before after next : List ℤ) (q : ℤ)
+pub one_more_lifted : (value : ℕ → ℕ → ℤ) (p j : ℕ) (before after : List ℤ) (to : ℤ)
     → LiftedUpTo value p j before after
     → j < length before
-    → next ≡ set after j (greater (get_or after j (pos 0)) q)
-    → q ≡ value j p
-    → LiftedUpTo value p (j + 1) before next
-one_more_lifted value p j before after next q r inside stored is-value =
-    subst (λ (l : List ℤ). LiftedUpTo value p (j + 1) before l) (sym (stored ∙ ap (λ (v : ℤ). set after j (greater (get_or after j (pos 0)) v)) is-value)) (record {
-      as_long = length-set after j to ∙ r.as_long;
-      lifted = λ k h. go k h (ltb k j) refl;
-      as_before = λ k h. get_or-set_other after j k to (pos 0) (omega arith) ∙ r.as_before k (omega arith);
-    })
+    → to ≡ greater (get_or after j (pos 0)) (value j p)
+    → LiftedUpTo value p (j + 1) before (set after j to)
+one_more_lifted value p j before after to r inside is-greater = record {
+  as_long = length-set after j to ∙ r.as_long;
+  lifted = λ k h. go k h (ltb k j) refl;
+  as_before = λ k h. get_or-set_other after j k to (pos 0) (omega arith) ∙ r.as_before k (omega arith);
+}
   where
-    to : ℤ
-    to = greater (get_or after j (pos 0)) (value j p)
-
     go : (k : ℕ) → k < j + 1 → (b : Bool) → ltb k j ≡ b → LiftedTo (value k) (λ x. x ≡ p) (get_or before k (pos 0)) (get_or (set after j to) k (pos 0))
     go k h true e =
         rw (get_or-set_other after j k to (pos 0) (omega (arith, ltb-true k j e))) (r.lifted k (ltb-true k j e))
     go k h false e =
         let last : k ≡ j = omega (arith, ltb-false k j e) in
-        rw (last, get_or-set_same after j to (pos 0) (omega (arith, r.as_long)), r.as_before j (omega arith)) (lifted_at (value j) p (get_or before j (pos 0)))
+        rw (last, get_or-set_same after j to (pos 0) (omega (arith, r.as_long)), is-greater, r.as_before j (omega arith)) (lifted_at (value j) p (get_or before j (pos 0)))

@@ -6,6 +6,7 @@ use Rattle.theory.specs.Moved.{LiftedTo}
 use Rattle.theory.specs.Points.{floor_div, walk}
 use Rattle.theory.specs.Lists.{rows_of}
 use Rattle.demands.specs.Levels.{load_of}
+use Rattle.demands.specs.declared.ranked.RankedRow.{RankedRow}
 
 -- the divisor of entry j at p: the jobs of the row above with that place, and 1 for the row itself, whose entry comes last
 unfoldable pub divisor_of : List ℕ → ℕ → ℕ → ℕ
@@ -36,7 +37,13 @@ AllInRange cs best = (j : ℕ) → j ≤ length cs → InRange (get_or best j (p
 abbrev pub NewPoints : List ℕ → List ℕ → ℕ → ℕ → ℕ → ℕ → Type 0
 NewPoints cs ts level time last p = Memᴰ p (walk (rows_of cs ts ts) level time) × (last < p)
 
+abbrev pub NewPointsIn : RankedRow → ℕ → ℕ → ℕ → ℕ → Type 0
+NewPointsIn row = NewPoints row.c.now row.t.now
+
 -- every entry, the row's own too, lifted to the greatest of its quotients at the visited points
 abbrev pub AllLifted : ℕ → List ℕ → List ℕ → (ℕ → Type 0) → List ℤ → List ℤ → Type 0
 AllLifted own cs ts Visited before after =
     (j : ℕ) → j ≤ length cs → LiftedTo (quotient_of own cs ts j) Visited (get_or before j (pos 0)) (get_or after j (pos 0))
+
+abbrev pub AllLiftedIn : RankedRow → (ℕ → Type 0) → List ℤ → List ℤ → Type 0
+AllLiftedIn row = AllLifted row.own row.c.now row.t.now

@@ -12,18 +12,18 @@ pub overflow_mul-sum : goal.overflow_mul-sum
 overflow_mul-sum c =
     let second : c.into_iter-own-iterator.result.b.rest.now ≡ take (length c.args.c.now) c.args.t.now = search rules in
     let turn = zip_turn c.args.c.now c.args.t.now _ _ _ c.next.new.self _ (search rules) (second ∙ take_all _ _ (omega (arith, c.requires.small.as_many))) c.loop-own.yielded_by _ c.in-Some.is c.next.ensures.steps in
-    let asked : c.jobs.result * c.in-Some.own.now ≤ 2_000_000 = next_asked c.requires.small c.requires.time_bound c.loop-own.invariant _ _ turn c.jobs.ensures in
+    let asked : c.jobs.result * c.in-Some.own.now ≤ 2_000_000 = next_asked c.requires.small c.requires.time_bound c.loop-own.invariant turn.0 (turn.2 0) (turn.3 0) c.jobs.ensures in
     omega (arith, asked)
 
 pub overflow_add-sum : goal.overflow_add-sum
 overflow_add-sum c =
     let second : c.into_iter-own-iterator.result.b.rest.now ≡ take (length c.args.c.now) c.args.t.now = search rules in
     let turn = zip_turn c.args.c.now c.args.t.now _ _ _ c.next.new.self _ (search rules) (second ∙ take_all _ _ (omega (arith, c.requires.small.as_many))) c.loop-own.yielded_by _ c.in-Some.is c.next.ensures.steps in
-    let asked : c.jobs.result * c.in-Some.own.now ≤ 2_000_000 = next_asked c.requires.small c.requires.time_bound c.loop-own.invariant _ _ turn c.jobs.ensures in
+    let asked : c.jobs.result * c.in-Some.own.now ≤ 2_000_000 = next_asked c.requires.small c.requires.time_bound c.loop-own.invariant turn.0 (turn.2 0) (turn.3 0) c.jobs.ensures in
     omega (arith, asked, turn.0, c.requires.small.few)
 
 pub loop-own-preserved : goal.loop-own-preserved
 loop-own-preserved c =
     let second : c.into_iter-own-iterator.result.b.rest.now ≡ take (length c.args.c.now) c.args.t.now = search rules in
     let turn = zip_turn c.args.c.now c.args.t.now _ _ _ c.next.new.self _ (search rules) (second ∙ take_all _ _ (omega (arith, c.requires.small.as_many))) c.loop-own.yielded_by _ c.in-Some.is c.next.ensures.steps in
-    rw length-append (one_more_asked c.requires.small c.requires.time_bound c.loop-own.invariant _ _ turn c.jobs.ensures)
+    rw length-append (one_more_asked c.requires.small c.requires.time_bound c.loop-own.invariant turn.0 (turn.2 0) (turn.3 0) c.jobs.ensures)

@@ -19,36 +19,21 @@ returns-then-stop-eq0 t c =
     let a = c.args in
     let multiple = c.last_multiple-stop in (
       c.walk_on.ensures.0,
-      time_lifted _ _ _ _ _ _ c.requires.small.as_many (a.level - 1) (omega arith) multiple.result multiple.ensures c.if-stop-eq0.true a.best.now c.walk_on.new.best c.walk_on.ensures.1,
+      time_lifted _ _ _ _ _ _ c.args.row.now.small.as_many (a.level - 1) (omega arith) multiple.result multiple.ensures c.if-stop-eq0.true a.best.now c.walk_on.new.best c.walk_on.ensures.1,
     )
 
 pub walk_on-reached-requires : goal.walk_on-reached-requires
 walk_on-reached-requires t c =
     let a = c.args in
-    let multiple = c.last_multiple-stop in
-    (omega arith, (c.requires.small, (omega arith, ((omega (arith, c.if-stop-eq0.false), omega (arith, multiple.ensures, multiple_below (get_or a.t.now (a.level - 1) 0) a.time), omega arith), (omega arith, c.requires.all_in_range)))))
+    let by_time : c.last_multiple-stop.result ≤ a.time = omega (arith, c.last_multiple-stop.ensures, multiple_below (get_or a.row.now.t.now (a.level - 1) 0) a.time) in
+    (omega arith, (omega arith, ((omega (arith, c.if-stop-eq0.false), omega arith), (omega arith, c.requires.all_in_range))))
 
 pub walk_on-requires-2 : goal.walk_on-requires-2
 walk_on-requires-2 t c =
     let a = c.args in
     let first = c.walk_on-reached in
-    let multiple = c.last_multiple-stop in
-    let by_million : multiple.result ≤ 1_000_000 = omega (arith, multiple.ensures, multiple_below (get_or a.t.now (a.level - 1) 0) a.time) in (
-      omega arith,
-      (
-        c.requires.small,
-        (
-          omega arith,
-          (
-            (omega arith, omega arith, omega arith),
-            (
-              omega arith,
-              still_in_range _ _ _ _ _ _ by_million a.best.now first.new.best first.ensures.1 c.requires.all_in_range,
-            ),
-          ),
-        ),
-      ),
-    )
+    let by_million : c.last_multiple-stop.result ≤ 1_000_000 = omega (arith, c.last_multiple-stop.ensures, multiple_below (get_or a.row.now.t.now (a.level - 1) 0) a.time) in
+    (omega arith, (omega arith, ((omega arith, omega arith), (omega arith, still_in_range _ _ _ _ _ _ by_million a.best.now first.new.best first.ensures.1 c.requires.all_in_range))))
 
 pub returns : goal.returns
 returns t c =
@@ -56,6 +41,6 @@ returns t c =
     let multiple = c.last_multiple-stop in
     let first = c.walk_on-reached in
     let second = c.walk_on-2 in (
-      omega (arith, first.ensures.0, second.ensures.0, multiple.ensures, multiple_below (get_or a.t.now (a.level - 1) 0) a.time, c.if-time-last.false),
-      both_lifted _ _ _ _ _ _ c.requires.small.as_many (a.level - 1) (omega (arith, c.if-level-eq0.false)) multiple.result multiple.ensures (omega (arith, c.if-stop-eq0.false)) first.result first.ensures.0 a.best.now first.new.best second.new.best first.ensures.1 second.ensures.1,
+      omega (arith, first.ensures.0, second.ensures.0, multiple.ensures, multiple_below (get_or a.row.now.t.now (a.level - 1) 0) a.time, c.if-time-last.false),
+      both_lifted _ _ _ _ _ _ c.args.row.now.small.as_many (a.level - 1) (omega (arith, c.if-level-eq0.false)) multiple.result multiple.ensures (omega (arith, c.if-stop-eq0.false)) first.result first.ensures.0 a.best.now first.new.best second.new.best first.ensures.1 second.ensures.1,
     )
