@@ -1,4 +1,4 @@
--- The allowances found by rank, from the highest row down: what holds after p of them, how it begins, goes on and ends.
+-- The allowances found by rank, from the highest row down: what holds after p of them, how it goes on and ends.
 use mathlib.Core.Path.{◌≡◌, sym, ◌∙◌, subst}
 use Prim.Native.Nat.{ℕ, ◌+◌, ◌≤◌, ◌<◌}
 use mathlib.Core.List.{List}
@@ -18,9 +18,6 @@ pub record Filling (cs ds ts allowed : List ℕ) (p : ℕ) : Type 0 where
   pub places : p ≤ length cs
   pub long : length allowed ≡ 24
   pub found : (q : ℕ) → q < p → IsAllowance (rows_of cs ds ts) (get_or (ranking_by ds) q 0) (get_or allowed (get_or (ranking_by ds) q 0) 0)
-
-pub filling_begins : (cs ds ts allowed : List ℕ) → length allowed ≡ 24 → Filling cs ds ts allowed 0
-filling_begins cs ds ts allowed long = record { places = omega arith; long = long; found = λ q h. absurd (omega arith) }
 
 module _ {cs ds ts allowed : List ℕ} {p : ℕ} (shaped : Shaped cs ds ts) (so_far : Filling cs ds ts allowed p) where
   -- one more

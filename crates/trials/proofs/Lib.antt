@@ -1,4 +1,4 @@
 -- Laws of the search by trial.
 pub mod Search
-pub mod ByRank
+pub mod SetByRank
 pub mod Filling

@@ -1,5 +1,5 @@
--- The search for the allowance of the row at place p over the rows by rank, from the lowest up: what holds after the rows from place j on, how it begins, goes
--- on and ends.
+-- The search for the allowance of the row at place p over the rows by rank, from the lowest up: what holds after the rows from place j on, how it begins and
+-- goes on.
 use mathlib.Core.Path.{◌≡◌, refl, sym, ap, ◌∙◌, subst}
 use Prim.Native.Nat.{ℕ, ◌+◌, ◌-◌, ◌*◌, ◌≤◌, ◌<◌}
 use mathlib.Core.Logic.{◌⊎◌, inl, inr}
@@ -15,9 +15,10 @@ use Rattle.theory.proofs.Ceil.{ceil_one}
 use Rattle.theory.proofs.Tests.{equal_or_not}
 use Rattle.demands.specs.Levels.{load_of, Small}
 use Rattle.climbs.proofs.Load.{load_of_mono}
-use Rattle.raises.specs.Raise.{raised_load, RoomBy, LargestRaise}
+use Rattle.demands.specs.Loads.{raised_load}
+use Rattle.raises.specs.Raise.{RoomBy, LargestRaise}
 use Rattle.raises.proofs.Raised.{room_with_less}
-use Rattle.trials.specs.Trial.{InTimeByRank, counted_by, RoomWith, RoomFrom, AllowanceAt}
+use Rattle.trials.specs.Trial.{InTimeByRank, counted_by, RoomWith, RoomFrom}
 
 -- the row at place p counts itself once
 pub counts_itself_once : (ts : List ℕ) (p : ℕ) → counted_by ts p p ≡ 1_000_000
@@ -95,7 +96,3 @@ module _ {cs ds ts : List ℕ} {p allowed j : ℕ} (so_far : Searching cs ds ts 
       go : (q : ℕ) → q < length cs → (q ≡ j - 1) ⊎ (q ≡ j - 1 → ⊥) → j - 1 ≤ q → RoomWith cs ds ts p a q
       go q h (inl e) past = subst (RoomWith cs ds ts p a) (sym e) l.meets
       go q h (inr d) past = room_with_less (get_or cs q 0) (take q cs) (take q ts) (counted_by ts p q) a allowed (get_or ds q 0) l.up_to (so_far.room q (omega arith) h)
-
-  -- after the row itself what is left is the allowance
-  pub searching_ends : j ≤ p → AllowanceAt cs ds ts p allowed
-  searching_ends past = record { all_have_room = λ q from h. so_far.room q (omega arith) h; largest = so_far.no_larger }

@@ -1,10 +1,10 @@
 -- Rows that stand by rank on lists of C, D and T: what it takes that they all respond in time, and the allowance of one of them (document 01, "Allowance").
-use Rattle.std.specs.Prelude.{◌≡◌, ℕ, ◌≤◌, ◌<◌, true, false, List, eqb, length, get_or, take}
+use Rattle.std.specs.Prelude.{◌≡◌, ℕ, ◌≤◌, ◌<◌, true, false, List, eqb, length, get_or, take, Result, Ok, Err}
 use Rattle.theory.specs.Climb.{LeastRoom}
 use Rattle.demands.specs.Levels.{load_of, Small}
-use Rattle.raises.specs.Raise.{raised_load, RoomBy}
-use Rattle.raises.specs.declared.Raise.{Raise}
-use Rattle.raises.specs.declared.Raise.TheVariants.{Largest, LeftOff}
+use Rattle.demands.specs.Loads.{raised_load}
+use Rattle.raises.specs.Raise.{RoomBy}
+use Rattle.raises.specs.declared.LeftOff.{LeftOff}
 
 -- rows by rank, within the limits, each with its response time, which is at most its deadline
 pub record InTimeByRank (cs ds ts responses : List ℕ) : Type 0 where
@@ -33,6 +33,6 @@ pub record AllowanceAt (cs ds ts : List ℕ) (p a : ℕ) : Type 0 where
   pub largest : (b : ℕ) → RoomFrom cs ds ts p b p → b ≤ a
 
 -- what a search for it by climbs of at most so many rounds must come to
-abbrev pub IsAllowanceAt : List ℕ → List ℕ → List ℕ → ℕ → ℕ → Raise → Type 0
-IsAllowanceAt cs ds ts p rounds (Largest a) = AllowanceAt cs ds ts p a
-IsAllowanceAt cs ds ts p rounds LeftOff = rounds < 1_000_000
+abbrev pub IsAllowanceAt : List ℕ → List ℕ → List ℕ → ℕ → ℕ → Result ℕ LeftOff → Type 0
+IsAllowanceAt cs ds ts p rounds (Ok a) = AllowanceAt cs ds ts p a
+IsAllowanceAt cs ds ts p rounds (Err left_off) = rounds < 1_000_000
