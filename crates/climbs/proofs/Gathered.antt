@@ -1,17 +1,42 @@
--- Numbers gathered at places into the front of an array: one more, stored behind those that stand there.
-use mathlib.Core.Path.{◌≡◌, sym, ap, ◌∙◌}
-use Prim.Native.Nat.{ℕ, ◌+◌, ◌<◌}
-use mathlib.Core.List.{List, [], ◌∷◌, ◌++◌, map, map-append}
-use native.Mathlib.Numerals.{add-one}
-use lib.ListN.{length, get_or, take, set}
-use lib.Seq.{take-suc, take-suc-set}
+-- The rows at some places of a set, as lists of C, D and T: rows within the limits, and the set's rows there.
+use mathlib.Core.Path.{◌≡◌, sym, ◌∙◌, subst}
+use Prim.Native.Nat.{ℕ, zero, suc, ◌≤◌, ◌<◌}
+use mathlib.Core.List.{List, [], ◌∷◌, map}
+use native.Mathlib.Omega.{arith}
+use lib.ListN.{length, get_or, length-map}
+use Rattle.theory.specs.Row.{Row, row_at, AllWithin}
+use Rattle.theory.specs.Gather.{All}
+use Rattle.theory.specs.Lists.{Shaped, rows_of}
+use Rattle.theory.proofs.Each.{all_map}
+use Rattle.theory.proofs.RowsOf.{rows_of_length, rows_of_places}
+use Rattle.climbs.specs.Ranking.{numbers_at}
 
--- the next number that a function gives at the places
-pub gathered_next : (xs places : List ℕ) (j : ℕ) → j < length places → (f : ℕ → ℕ) → j < length xs → take j xs ≡ map f (take j places)
-    → take (j + 1) (set xs j (f (get_or places j 0))) ≡ map f (take (j + 1) places)
-gathered_next xs places j more f room same =
-    let h = get_or places j 0 in
-    rw (add-one j)
-    (take-suc-set xs j (f h) room
-    ∙ ap (λ (ys : List ℕ). ys ++ (f h ∷ [])) same
-    ∙ sym (ap (map f) (take-suc places j 0 more) ∙ map-append f (take j places) (h ∷ [])))
+-- rows at places keep the limits where all rows do
+within_at_places : (rows : List Row) (places : List ℕ) → AllWithin rows → All (λ h. h < length rows) places → AllWithin (map (row_at rows) places)
+within_at_places rows [] within inside k h = absurd (omega arith)
+within_at_places rows (place ∷ places) within inside zero h = within place inside.0
+within_at_places rows (place ∷ places) within inside (suc k) h = within_at_places rows places within inside.1 k (omega arith)
+
+-- there is a number for each place
+pub length_at : (places numbers : List ℕ) → length (numbers_at places numbers) ≡ length places
+length_at places numbers = length-map places (λ h. get_or numbers h 0)
+
+module _ (cs ds ts places : List ℕ) where
+  pub shaped_at : 1 ≤ length places → length places ≤ 24 → Shaped (numbers_at places cs) (numbers_at places ds) (numbers_at places ts)
+  shaped_at some few = record {
+    some_row = omega (arith, length_at places cs);
+    no_25th = omega (arith, length_at places cs);
+    as_many_deadlines = length_at places ds ∙ sym (length_at places cs);
+    as_many_periods = length_at places ts ∙ sym (length_at places cs);
+  }
+
+  module _ (shaped : Shaped cs ds ts) where
+    -- they are the rows at the places
+    pub rows_at_places : rows_of (numbers_at places cs) (numbers_at places ds) (numbers_at places ts) ≡ map (row_at (rows_of cs ds ts)) places
+    rows_at_places = rows_of_places cs ds ts shaped.as_many_deadlines shaped.as_many_periods places
+
+    pub within_at : AllWithin (rows_of cs ds ts) → All (λ h. h < length cs) places → AllWithin (rows_of (numbers_at places cs) (numbers_at places ds) (numbers_at places ts))
+    within_at within inside =
+        subst AllWithin (sym rows_at_places)
+        (within_at_places (rows_of cs ds ts) places within
+        (all_map places (λ h l. omega (arith, l, rows_of_length cs ds ts shaped.as_many_deadlines shaped.as_many_periods)) inside))

@@ -1,6 +1,6 @@
 -- A set's rows by rank: they are rows within the limits too, each loaded by those before it as in the set; and where a climb may start when they are climbed one
 -- after another.
-use mathlib.Core.Path.{◌≡◌, refl, sym, ◌∙◌, ap, subst}
+use mathlib.Core.Path.{◌≡◌, refl, ◌∙◌, ap}
 use Prim.Native.Nat.{ℕ, ◌+◌, ◌≤◌, ◌<◌, zero-le}
 use mathlib.Core.List.{List}
 use native.Mathlib.Omega.{arith}
@@ -10,25 +10,15 @@ use Rattle.theory.specs.Row.{AllWithin, WithinLimits}
 use Rattle.theory.specs.Response.{load}
 use Rattle.theory.specs.Climb.{LeastRoom, Start}
 use Rattle.theory.specs.Lists.{rows_of, Shaped}
-use Rattle.theory.proofs.RowsOf.{rows_of_length, row_of_lists}
+use Rattle.theory.proofs.Each.{all_map}
 use Rattle.demands.specs.Levels.{load_of, Small}
 use Rattle.climbs.specs.Ranking.{ranking_by, InRankOrder, StandByRank}
-use Rattle.climbs.proofs.ByRank.{length_ranking}
+use Rattle.climbs.proofs.ByRank.{length_ranking, ranking_inside}
+use Rattle.climbs.proofs.Gathered.{shaped_at, within_at}
 use Rattle.climbs.proofs.Load.{limits_at, small_above}
 use Rattle.climbs.proofs.InLists.{ranked, ranked_in_lists}
 use Rattle.climbs.proofs.AtRank.{load_at_rank, entry_at_rank}
 use Rattle.climbs.proofs.After.{RespondsBefore, start_after}
-
--- rows of which C, D and T are in the order of rank
-pub set_stands :
-    {cs ds ts executions deadlines periods : List ℕ}
-    → Shaped cs ds ts
-    → AllWithin (rows_of cs ds ts)
-    → InRankOrder ds cs executions
-    → InRankOrder ds ds deadlines
-    → InRankOrder ds ts periods
-    → StandByRank cs ds ts executions deadlines periods
-set_stands shaped within by_C by_D by_T = record { shaped = shaped; within = within; by_C = by_C; by_D = by_D; by_T = by_T }
 
 -- by rank there are as many numbers as rows
 pub length_by_rank : (ds xs list : List ℕ) → InRankOrder ds xs list → length list ≡ length ds
@@ -67,19 +57,14 @@ module _ {cs ds ts executions deadlines periods : List ℕ} (stand : StandByRank
 
   -- so they are rows, within the limits
   pub shaped_by_rank : Shaped executions deadlines periods
-  shaped_by_rank = record {
-    some_row = omega (arith, as_many_by_rank, stand.shaped.some_row);
-    no_25th = omega (arith, as_many_by_rank, stand.shaped.no_25th);
-    as_many_deadlines = omega (arith, as_many_by_rank, length_by_rank ds ds deadlines stand.by_D, stand.shaped.as_many_deadlines);
-    as_many_periods = omega (arith, as_many_by_rank, length_by_rank ds ts periods stand.by_T, stand.shaped.as_many_deadlines);
-  }
+  shaped_by_rank =
+      rw (stand.by_C, stand.by_D, stand.by_T)
+      (shaped_at cs ds ts (ranking_by ds) (omega (arith, stand.shaped, length_ranking ds)) (omega (arith, stand.shaped, length_ranking ds)))
 
   pub within_by_rank : AllWithin (rows_of executions deadlines periods)
-  within_by_rank k h =
-      let shaped = shaped_by_rank in
-      let inside : k < length cs = omega (arith, as_many_by_rank, rows_of_length executions deadlines periods shaped.as_many_deadlines shaped.as_many_periods) in
-      subst WithinLimits (sym (row_of_lists executions deadlines periods shaped.as_many_deadlines shaped.as_many_periods k))
-      (rw (execution_by_rank k inside, deadline_by_rank k inside, period_by_rank k inside) (limits_by_rank k inside))
+  within_by_rank =
+      rw (stand.by_C, stand.by_D, stand.by_T)
+      (within_at cs ds ts (ranking_by ds) stand.shaped stand.within (all_map (ranking_by ds) (λ h inside. omega (arith, stand.shaped.as_many_deadlines)) (ranking_inside ds)))
 
   -- each C that stands there is from 1 to a million
   pub execution_within : (p : ℕ) → p < length cs → (1 ≤ get_or executions p 0) × (get_or executions p 0 ≤ 1_000_000)
