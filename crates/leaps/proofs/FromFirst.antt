@@ -17,7 +17,7 @@ use Rattle.demands.specs.Levels.{demand_of, load_of, Small}
 use Rattle.demands.proofs.Levels.{demand_of_one_more}
 use Rattle.climbs.proofs.Load.{load_of_mono}
 use Rattle.climbs.proofs.After.{load_at, RespondsBefore, start_after}
-use Rattle.raises.specs.Raise.{raised_load}
+use Rattle.demands.specs.Loads.{raised_load}
 use Rattle.leaps.specs.Start.{StartFromFirst, start_of}
 use Rattle.leaps.proofs.Starts.{starts, start_with_more}
 use Rattle.leaps.proofs.StartOf.{start_is_first_load, start_of_starts}

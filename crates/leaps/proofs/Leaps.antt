@@ -3,18 +3,19 @@
 use mathlib.Core.Path.{◌≡◌, refl, ap}
 use Prim.Native.Nat.{ℕ, zero, suc, ◌+◌, ◌-◌, ◌*◌, ◌/◌, ◌≤◌, ◌<◌}
 use mathlib.Core.Bool.{Bool, true, false}
-use mathlib.Core.Logic.{◌⊎◌, inl, inr}
 use mathlib.Core.List.{List, [], ◌∷◌, ◌++◌}
 use native.Mathlib.Omega.{arith}
-use native.Mathlib.Nat.{le_refl, le_trans, mul-add, mul-sub, mul_assoc, mul_comm, mul-le-mul_left, mul-le-mul_right, div-mul-le_self}
+use native.Mathlib.Nat.{mul-add, mul-sub, mul_assoc, mul_comm, mul-le-mul_left, mul-le-mul_right, div-mul-le_self}
 use lib.ListN.{length, get_or, length-append}
 use Rattle.theory.specs.Response.{ceil}
 use Rattle.theory.specs.Climb.{RoomAt, Start}
 use Rattle.theory.proofs.Ceil.{le_ceil, ceil_mono}
-use Rattle.demands.specs.Levels.{demand_of, load_of, Small}
+use Rattle.demands.specs.Levels.{demand_of, load_of}
+use Rattle.demands.specs.declared.ranked.RankedRow.{RankedRow}
+use Rattle.demands.specs.declared.ranked.Raise.{Raise}
 use Rattle.leaps.specs.Leap.{share, asked_beside, filled_by, Leaned, by_jobs, as_linear}
 use Rattle.climbs.proofs.Load.{demand_of_mono}
-use Rattle.raises.specs.Raise.{raised_load}
+use Rattle.demands.specs.Loads.{raised_load, raised_load_in}
 use Rattle.raises.proofs.Raised.{raised_mono}
 use Rattle.leaps.proofs.Starts.{starts}
 
@@ -86,10 +87,6 @@ one_as_linear (true ∷ part) (c ∷ cs) (T ∷ ts) at h same = let more = one_a
 one_as_linear (false ∷ part) (c ∷ cs) (T ∷ ts) at h same = let more = one_as_linear part cs ts at (omega arith) (omega arith) in (omega (arith, more.0), more.1)
 
 module _ {own : ℕ} {cs ts : List ℕ} {at j rest free : ℕ} (so_far : Leaping own cs ts at j rest free) (same : length ts ≡ length cs) (positive : (i : ℕ) → i < length cs → 1 ≤ get_or ts i 0) where
-  -- what is left is no more than the load
-  pub rest_up_to : rest ≤ load_of own cs ts at
-  rest_up_to = omega (arith, so_far.is_rest, part_asked so_far.part cs ts at at (le_refl at) positive)
-
   module _ (inside : j < length cs) where
     -- the part ends before the next row
     ends_here : length so_far.part < length cs
@@ -121,53 +118,46 @@ module _ {own : ℕ} {cs ts : List ℕ} {at j rest free : ℕ} (so_far : Leaping
     }
 
 -- the load with a raise is the load with a row more
-pub raise_as_row : (own : ℕ) (cs ts : List ℕ) (period more t : ℕ) → load_of own (more ∷ cs) (period ∷ ts) t ≡ raised_load own cs ts period more t
+raise_as_row : (own : ℕ) (cs ts : List ℕ) (period more t : ℕ) → load_of own (more ∷ cs) (period ∷ ts) t ≡ raised_load own cs ts period more t
 unfolding demand_of
 raise_as_row own cs ts period more t = omega (arith, mul_comm more (ceil t period))
 
--- a leap of a load with a raise begins with the raise as a row before the others
-pub leaping_with_raise : (own : ℕ) (cs ts : List ℕ) (period more at load : ℕ) → load ≡ raised_load own cs ts period more at → Leaping own (more ∷ cs) (period ∷ ts) at 0 load 4_294_967_296
-leaping_with_raise own cs ts period more at load is_load = rw (is_load, ← raise_as_row own cs ts period more at) (leaping_begins own (more ∷ cs) (period ∷ ts) at)
+module _ (row : RankedRow) (raise : Raise) where
+  -- a leap of a row with a raise, which stands before the rows above as one more
+  abbrev pub LeapingIn : ℕ → ℕ → ℕ → ℕ → Type 0
+  LeapingIn = Leaping row.own (raise.more ∷ row.c.now) (raise.period ∷ row.t.now)
 
--- the periods of rows and of a raise among them are positive
-pub rows_positive : {cs ts : List ℕ} (more period : ℕ) → Small cs ts → 1 ≤ period → (i : ℕ) → i < length (more ∷ cs) → 1 ≤ get_or (period ∷ ts) i 0
-rows_positive more period small positive zero inside = positive
-rows_positive more period small positive (suc i) inside = small.period_positive i (omega arith)
+  -- all periods are positive
+  pub periods_positive : (i : ℕ) → i < length (raise.more ∷ row.c.now) → 1 ≤ get_or (raise.period ∷ row.t.now) i 0
+  periods_positive zero inside = raise.in_range.1
+  periods_positive (suc i) inside = row.small.period_positive i (omega arith)
 
--- a leap with a raise, over rows that keep the limits
-module _ {own : ℕ} {cs ts : List ℕ} {period more at j rest free : ℕ} (runs : 1 ≤ own) (small : Small cs ts) (positive : 1 ≤ period) (so_far : Leaping own (more ∷ cs) (period ∷ ts) at j rest free) where
-  -- how much can be left of the load and of the core
-  pub left_over : {load : ℕ} → (load ≡ raised_load own cs ts period more at) × (load ≤ 60_000_000) → (1 ≤ rest) × (rest ≤ 60_000_000) × (free ≤ 4_294_967_296)
-  left_over of_load = (
-    omega (arith, so_far.is_rest),
-    omega (arith, rest_up_to so_far (ap suc small.as_many) (rows_positive more period small positive), raise_as_row own cs ts period more at, of_load),
-    omega (arith, so_far.is_free),
-  )
+  -- it begins with the load
+  pub leap_begins : {at load : ℕ} → load ≡ raised_load_in row raise at → LeapingIn at 0 load 4_294_967_296
+  leap_begins {at} is_load = rw (is_load, ← raise_as_row row.own row.c.now row.t.now raise.period raise.more at) (leaping_begins row.own (raise.more ∷ row.c.now) (raise.period ∷ row.t.now) at)
 
-  -- the next row's jobs leave some of it
-  pub more_is_left : j < length (more ∷ cs) → ceil at (get_or (period ∷ ts) j 0) * get_or (more ∷ cs) j 0 < rest
-  more_is_left inside = omega (arith, next_is_left so_far (ap suc small.as_many) (rows_positive more period small positive) inside)
+  module _ {at j rest free : ℕ} (so_far : LeapingIn at j rest free) {c t : ℕ} (inside : j < length (raise.more ∷ row.c.now)) (is_c : c ≡ get_or (raise.more ∷ row.c.now) j 0) (is_t : t ≡ get_or (raise.period ∷ row.t.now) j 0) where
+    -- the jobs of the next row leave some of what is asked
+    pub some_is_left : 1 ≤ row.own → ceil at t * c < rest
+    some_is_left runs = rw (is_c, is_t) (omega (arith, next_is_left so_far (ap suc row.small.as_many) periods_positive inside))
 
-  -- the next row
-  pub raised_leaping_more : j < length (more ∷ cs) → {rest' free' : ℕ} → Leaned at (get_or (more ∷ cs) j 0) (get_or (period ∷ ts) j 0) rest free rest' free'
-      → Leaping own (more ∷ cs) (period ∷ ts) at (suc j) rest' free'
-  raised_leaping_more inside = leaping_more so_far (ap suc small.as_many) (rows_positive more period small positive) inside
+    -- the next row
+    pub leap_more : {rest' free' : ℕ} → Leaned at c t rest free rest' free' → LeapingIn at (suc j) rest' free'
+    leap_more leaned = leaping_more so_far (ap suc row.small.as_many) periods_positive inside (rw (is_c, is_t) at leaned)
 
--- a value that is not before the start and at most what the leap leaves in question is a start
-pub leap_keeps_start : (own : ℕ) (cs ts : List ℕ) (period more : ℕ) {at j rest free least r : ℕ} → 1 ≤ own → Start (raised_load own cs ts period more) at
+-- a value that is not before the start, and below every time in question from there on, is a start
+pub leap_keeps_start : (own : ℕ) (cs ts : List ℕ) (period more : ℕ) {at j rest free r : ℕ} → 1 ≤ own → Start (raised_load own cs ts period more) at
     → Leaping own (more ∷ cs) (period ∷ ts) at j rest free
     → ((i : ℕ) → i < length (more ∷ cs) → 1 ≤ get_or (period ∷ ts) i 0)
-    → ((S : ℕ) → rest * 4_294_967_296 ≤ S * free → least ≤ S)
     → at ≤ r
-    → (r ≡ at) ⊎ (r ≤ least)
+    → ((S : ℕ) → at ≤ S → rest * 4_294_967_296 ≤ S * free → r ≤ S)
     → Start (raised_load own cs ts period more) r
-leap_keeps_start own cs ts period more {at} {j} {rest} {free} {least} {r} runs start leap positive is-least later which =
-    starts (raised_load own cs ts period more) (raised_mono own cs ts period more) (omega arith) r (omega (arith, start.from_one)) (λ S room. below S room which)
+leap_keeps_start own cs ts period more {at} {j} {rest} {free} {r} runs start leap positive later in_question =
+    starts (raised_load own cs ts period more) (raised_mono own cs ts period more) (omega arith) r (omega (arith, start.from_one)) (λ S room. below S room)
   where
-    below : (S : ℕ) → RoomAt (raised_load own cs ts period more) S → (r ≡ at) ⊎ (r ≤ least) → r ≤ S
-    below S room (inl e) = omega (arith, start.below_room S room)
-    below S room (inr h) =
-        le_trans h
-        (is-least S
+    below : (S : ℕ) → RoomAt (raised_load own cs ts period more) S → r ≤ S
+    below S room =
+        let after : at ≤ S = start.below_room S room in
+        in_question S after
         (rw (leap.is_rest, leap.is_free)
-        (leap_below_room leap.part own (more ∷ cs) (period ∷ ts) at S (start.below_room S room) positive (omega (arith, raise_as_row own cs ts period more S, room.enough)))))
+        (leap_below_room leap.part own (more ∷ cs) (period ∷ ts) at S after positive (omega (arith, raise_as_row own cs ts period more S, room.enough))))

@@ -13,7 +13,7 @@ use Rattle.theory.specs.Climb.{RoomAt, Start}
 use Rattle.theory.proofs.Ceil.{ceil_positive}
 use Rattle.theory.proofs.Climb.{start_again}
 use Rattle.theory.proofs.Rounds.{rises_on}
-use Rattle.raises.specs.Raise.{raised_load}
+use Rattle.demands.specs.Loads.{raised_load}
 use Rattle.raises.proofs.Raised.{raised_mono}
 
 module _ (next : ℕ → ℕ) (mono : (s t : ℕ) → s ≤ t → next s ≤ next t) where

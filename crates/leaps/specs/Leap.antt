@@ -1,6 +1,6 @@
 -- A leap of a climb. Some of the rows above are taken as linear: up to a time S such a row asks for S × C / T at least, and the others ask for what they ask
 -- for up to now, so that S cannot be small where those that are linear leave little of the core.
-use Rattle.std.specs.Prelude.{ℕ, ◌+◌, ◌-◌, ◌*◌, ◌/◌, ◌≡◌, Bool, true, false, List, [], ◌∷◌}
+use Rattle.std.specs.Prelude.{ℕ, ◌+◌, ◌-◌, ◌*◌, ◌/◌, ◌≤◌, ◌≡◌, Bool, true, false, List, [], ◌∷◌, Option, Some, None}
 use Rattle.theory.specs.Response.{ceil}
 use Rattle.demands.specs.Levels.{demand_of}
 
@@ -28,3 +28,8 @@ filled_by (false ∷ part) (c ∷ cs) (T ∷ ts) = filled_by part cs ts
 pub data Leaned (at C T rest free rest' free' : ℕ) : Type 0 where
   by_jobs : rest' ≡ rest → free' ≡ free → Leaned at C T rest free rest' free'
   as_linear : rest' ≡ rest - ceil at T * C → free' ≡ free - share C T → Leaned at C T rest free rest' free'
+
+-- a time that is not before the least in question; where there is none, no time is in question
+abbrev pub InQuestion : Option ℕ → ℕ → Type 0
+InQuestion (Some least) S = least ≤ S
+InQuestion None S = ⊥

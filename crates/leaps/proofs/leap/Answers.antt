@@ -1,69 +1,39 @@
-use Prim.Native.Nat.{◌<◌}
-use native.Mathlib.Numerals.{add-one}
+use mathlib.Core.Path.{refl}
 use native.Mathlib.Omega.{arith}
-use native.Mathlib.Nat.{le_refl}
-use lib.ListN.{length}
-use Rattle.leaps.proofs.Leaps.{leaping_with_raise, left_over, more_is_left, raised_leaping_more, rows_positive, leap_keeps_start}
+use Rattle.std.proofs.Common.{rules, length-append, add-one}
+use Rattle.std.proofs.lemmas.Slice.Zip.{zip_turn}
+use Rattle.leaps.proofs.Leaps.{periods_positive, leap_begins, some_is_left, leap_more, leap_keeps_start}
 use Rattle.leaps.proofs.leap.Goals as goal
 
-pub returns-then-limit-at : goal.returns-then-limit-at
-returns-then-limit-at c = (c.requires.start, le_refl _)
+pub lean-leap-requires-clause-some_left : goal.lean-leap-requires-clause-some_left
+lean-leap-requires-clause-some_left c =
+    rw c.from.ensures (some_is_left c.args.row.now c.args.raise.now (leap_begins c.args.row.now c.args.raise.now c.raised_load_at.ensures.0) (omega arith) refl refl c.requires.runs)
 
-pub load_at-load-requires : goal.load_at-load-requires
-load_at-load-requires c = record {
-  small = c.requires.small;
-  time_bound = (omega (arith, c.requires.limit_bound), c.requires.limit_bound.2);
-  more_le_period = c.requires.more_le_period;
-}
+pub loop-c-init : goal.loop-c-init
+loop-c-init c =
+    leap_more c.args.row.now c.args.raise.now (leap_begins c.args.row.now c.args.raise.now c.raised_load_at.ensures.0) (omega arith) refl refl (rw c.from.ensures at c.lean-leap.ensures)
 
-pub lean-leap-requires : goal.lean-leap-requires
-lean-leap-requires c =
-    let row = c.args in
-    let period = c.requires.more_le_period in
-    let begins = leaping_with_raise row.own row.c.now row.t.now row.period row.more row.at c.load_at-load.result c.load_at-load.ensures.0 in
+pub lean-leap-requires-in-loop-c : goal.lean-leap-requires-in-loop-c
+lean-leap-requires-in-loop-c c =
+    let row = c.args.row.now in
+    let turn = zip_turn row.c.now row.t.now _ _ _ c.next.new.self _ (search rules) (search rules) c.loop-c.yielded_by _ c.in-Some.is c.next.ensures.steps in
+    let small = row.small in
     record {
-      le_t = (period.1, period.2, period.0, omega (arith, c.requires.limit_bound));
-      rest_bound = (more_is_left c.requires.limit_bound.1 c.requires.small period.1 begins (omega arith), c.load_at-load.ensures.1, le_refl _);
+      le_t = (omega (arith, turn.3 0, small.period_positive _ turn.0), omega (arith, turn.3 0, small.by_million _ turn.0), omega (arith, turn.2 0, turn.3 0, small.by_period _ turn.0), omega arith);
+      some_left = some_is_left row c.args.raise.now c.loop-c.invariant (omega (arith, turn.0)) (turn.2 0) (turn.3 0) c.requires.runs;
     }
 
-pub loop-j-init : goal.loop-j-init
-loop-j-init c =
-    let row = c.args in
-    let begins = leaping_with_raise row.own row.c.now row.t.now row.period row.more row.at c.load_at-load.result c.load_at-load.ensures.0 in
-    (omega arith, raised_leaping_more c.requires.limit_bound.1 c.requires.small c.requires.more_le_period.1 begins (omega arith) c.lean-leap.ensures)
-
-pub bounds-t-j : goal.bounds-t-j
-bounds-t-j c = omega (arith, c.requires.small.as_many)
-
-pub lean-leap-requires-in-loop-j : goal.lean-leap-requires-in-loop-j
-lean-leap-requires-in-loop-j c =
-    let small = c.requires.small in
-    let turn = c.loop-j in
-    let inside : turn.j < length c.args.c.now = omega arith in
-    let left = left_over c.requires.limit_bound.1 small c.requires.more_le_period.1 turn.invariant.1 c.load_at-load.ensures in
-    record {
-      le_t = (small.period_positive turn.j inside, small.by_million turn.j inside, small.by_period turn.j inside, omega (arith, c.requires.limit_bound));
-      rest_bound = (more_is_left c.requires.limit_bound.1 small c.requires.more_le_period.1 turn.invariant.1 (omega arith), left.1, left.2);
-    }
-
-pub loop-j-preserved : goal.loop-j-preserved
-loop-j-preserved c =
-    let turn = c.loop-j in (
-      omega arith,
-      rw (add-one turn.j)
-          (raised_leaping_more c.requires.limit_bound.1 c.requires.small c.requires.more_le_period.1 turn.invariant.1 (omega arith) c.lean-leap-in-loop-j.ensures),
-    )
-
-pub least_in_question-requires : goal.least_in_question-requires
-least_in_question-requires c = left_over c.requires.limit_bound.1 c.requires.small c.requires.more_le_period.1 c.loop-j.invariant.1 c.load_at-load.ensures
-
-pub within-requires : goal.within-requires
-within-requires c = (c.if-limit-at.false, c.requires.limit_bound.0)
+pub loop-c-preserved : goal.loop-c-preserved
+loop-c-preserved c =
+    let row = c.args.row.now in
+    let turn = zip_turn row.c.now row.t.now _ _ _ c.next.new.self _ (search rules) (search rules) c.loop-c.yielded_by _ c.in-Some.is c.next.ensures.steps in
+    rw (length-append, add-one) (leap_more row c.args.raise.now c.loop-c.invariant (omega (arith, turn.0)) (turn.2 0) (turn.3 0) c.lean-leap-in-loop-c.ensures)
 
 pub returns : goal.returns
 returns c =
-    let row = c.args in (
-      leap_keeps_start row.own row.c.now row.t.now row.period row.more c.requires.limit_bound.1 c.requires.start c.loop-j.invariant.1
-          (rows_positive row.more row.period c.requires.small c.requires.more_le_period.1) c.least_in_question.ensures c.within.ensures.0 c.within.ensures.1,
-      c.within.ensures.0,
+    let row = c.args.row.now in
+    let raise = c.args.raise.now in (
+      leap_keeps_start row.own row.c.now row.t.now raise.period raise.more c.requires.runs c.requires.start c.loop-c.invariant (periods_positive row raise) c.within.ensures.later
+          (λ S after asked. c.within.ensures.in_question S after (c.least_in_question.ensures S asked)),
+      c.within.ensures.later,
     )
