@@ -1,5 +1,4 @@
--- The row at a place of an order by rank: the rows before it are its rivals, C and T gathered by rank hold its numbers and theirs, and the best quotients
--- of the walk over them are its bounds.
+-- The row at a place of rows by rank: the rows before it are its rivals, and the best quotients of the walk over them are its bounds.
 use mathlib.Core.Path.{◌≡◌, sym, ap, ◌∙◌, subst}
 use Prim.Native.Nat.{ℕ, zero, suc, ◌≤◌, ◌<◌}
 use mathlib.Core.List.{List, [], ◌∷◌}
@@ -8,14 +7,19 @@ use lib.IntN.{ℤ}
 use lib.ListN.{length, get_or, take}
 use lib.Seq.{take-take}
 use Rattle.theory.specs.Gather.{All}
-use Rattle.theory.specs.Row.{AllWithin}
-use Rattle.theory.specs.Lists.{Shaped, rows_of}
+use Rattle.theory.specs.Lists.{Shaped}
 use Rattle.theory.proofs.Each.{all_map}
+use Rattle.demands.specs.declared.ranked.RankedRow.{RankedRow}
+use Rattle.rows.specs.Values.{rows_in}
+use Rattle.rows.specs.declared.Rows.{Rows}
 use Rattle.climbs.specs.Ranking.{ranking_by, rivals_in}
+use Rattle.climbs.specs.Placed.{AreByRank, IsRowAt}
 use Rattle.climbs.proofs.ByRank.{ranking_inside}
-use Rattle.climbs.proofs.InLists.{ranked, ranked_in_lists, order_ranked}
-use Rattle.climbs.proofs.AtRank.{InRankOrder, rivals_at_rank, before_are_rivals, entry_at_rank}
-use Rattle.points.specs.Bounds.{BestOfWalk}
+use Rattle.climbs.proofs.Load.{rival_entries}
+use Rattle.climbs.proofs.InLists.{ranked, ranked_in_lists}
+use Rattle.climbs.proofs.AtRank.{rivals_at_rank, before_are_rivals}
+use Rattle.climbs.proofs.StandByRank.{deadline_by_rank, execution_by_rank, limits_by_rank}
+use Rattle.points.specs.Bounds.{BestOfWalkIn}
 use Rattle.points.proofs.Bounding.{HoldsBounds, bounds_held}
 
 -- what holds of each holds of each of the first
@@ -40,16 +44,25 @@ module _ (cs ds ts : List ℕ) (shaped : Shaped cs ds ts) (order : List ℕ) (by
     pub places_are : take j order ≡ rivals_in (ranking_by ds) ds (ranked cs ds ts shaped j)
     places_are = first_by_rank j (omega arith) ∙ sym (rivals_at_rank cs ds ts shaped j inside)
 
-    -- what stands there of numbers gathered by rank is the row's own
-    pub own_at_place : (xs array : List ℕ) → InRankOrder ds xs array → get_or array j 0 ≡ get_or xs (get_or order j 0) 0
-    own_at_place xs array in_order =
-        entry_at_rank cs ds ts shaped j inside xs array in_order ∙ ap (λ (h : ℕ). get_or xs h 0) (sym (order_ranked cs ds ts shaped order by_rank j inside))
+module _ (rows by_rank : Rows) (stand : AreByRank rows by_rank) (j : ℕ) (inside : j < length rows.c.now) {row : RankedRow} (here : IsRowAt by_rank j row) where
+  -- the place of the row in the set
+  abbrev k : ℕ
+  k = get_or (ranking_by rows.d.now) j 0
 
-    -- the best quotients of the walk over what stands before are the row's bounds
-    pub bounds_at_place : AllWithin (rows_of cs ds ts) → (executions periods : List ℕ) → InRankOrder ds cs executions → InRankOrder ds ts periods
-        → {best : List ℤ}
-        → BestOfWalk (get_or ds (get_or order j 0) 0) (get_or executions j 0) (take j executions) (take j periods) best
-        → HoldsBounds (rows_of cs ds ts) (ranked cs ds ts shaped j) (rivals_in (ranking_by ds) ds (ranked cs ds ts shaped j)) best
-    bounds_at_place within executions periods by_C by_T {best} walked =
-        bounds_held cs ds ts shaped within (ranked cs ds ts shaped j) (ranked_in_lists cs ds ts shaped j inside) best
-        (rw (order_ranked cs ds ts shaped order by_rank j inside, entry_at_rank cs ds ts shaped j inside cs executions by_C, before_are_rivals cs ds ts shaped j inside cs executions by_C, before_are_rivals cs ds ts shaped j inside ts periods by_T) at walked)
+  -- its deadline is not before the first tick
+  pub some_limit : 1 ≤ row.limit
+  some_limit = omega (arith, here.limit, deadline_by_rank stand j inside, limits_by_rank stand j inside)
+
+  -- what stands above it are its rivals' entries
+  executions_of_rivals : row.c.now ≡ rival_entries rows.c.now rows.d.now k
+  executions_of_rivals = here.executions_above ∙ before_are_rivals rows.c.now rows.d.now rows.t.now stand.shaped j inside rows.c.now by_rank.c.now stand.by_C
+
+  periods_of_rivals : row.t.now ≡ rival_entries rows.t.now rows.d.now k
+  periods_of_rivals = here.periods_above ∙ before_are_rivals rows.c.now rows.d.now rows.t.now stand.shaped j inside rows.t.now by_rank.t.now stand.by_T
+
+  -- the best quotients of its walk are the row's bounds
+  pub bounds_at_place : {best : List ℤ} → BestOfWalkIn row best → HoldsBounds (rows_in rows) k (rivals_in (ranking_by rows.d.now) rows.d.now k) best
+  bounds_at_place {best} walked =
+      bounds_held rows.c.now rows.d.now rows.t.now stand.shaped stand.within k (ranked_in_lists rows.c.now rows.d.now rows.t.now stand.shaped j inside)
+      (rw (executions_of_rivals, periods_of_rivals) at row.small) best
+      (rw (here.limit, deadline_by_rank stand j inside, here.own, execution_by_rank stand j inside, executions_of_rivals, periods_of_rivals) at walked)

@@ -16,7 +16,7 @@ use Rattle.theory.proofs.Attained.{Attained, moved_attains}
 use Rattle.theory.proofs.Walk.{walk_start, walk_positive}
 use Rattle.demands.specs.Levels.{Small}
 use Rattle.climbs.specs.Ranking.{ranking_by, rivals_in}
-use Rattle.climbs.proofs.Load.{rival_entries, limits_at, small_rivals}
+use Rattle.climbs.proofs.Load.{rival_entries, limits_at}
 use Rattle.walks.specs.Quotients.{quotient_of, least, NewPoints}
 use Rattle.points.specs.Bounds.{BestOfWalk}
 use Rattle.points.proofs.SmallLoad.{least_below}
@@ -47,10 +47,7 @@ module _ (cs ds ts : List ℕ) (shaped : Shaped cs ds ts) (within : AllWithin (r
   limits : WithinLimits (record { C = get_or cs k 0; D = get_or ds k 0; T = get_or ts k 0 })
   limits = limits_at cs ds ts shaped within k inside
 
-  small : Small executions periods
-  small = small_rivals cs ds ts shaped within k
-
-  module _ (best : List ℤ) (walked : BestOfWalk (get_or ds k 0) (get_or cs k 0) executions periods best) where
+  module _ (small : Small executions periods) (best : List ℤ) (walked : BestOfWalk (get_or ds k 0) (get_or cs k 0) executions periods best) where
     -- an entry whose quotients are those for row i
     bound_at : (i j : ℕ) → j ≤ length hs → ((p : ℕ) → quotient_of (get_or cs k 0) executions periods j p ≡ quotient rows k i p)
         → IsBound rows k i (get_or best j (pos 0))

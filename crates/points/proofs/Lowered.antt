@@ -22,20 +22,16 @@ pub down_trans : (x y z : ℤ) → Down x y → Down y z → Down x z
 down_trans x y z h k = ≤ℤ-trans z y x k h
 
 -- where one entry is lowered to what a function gives at a number, its own row is lowered past that and every other past nothing
-lowered_entry : (value : ℕ → ℤ) (at x : ℕ) (before after : List ℤ)
+lowered_entry : (value : ℕ → ℤ) (at x : ℕ) (before : List ℤ) (to : ℤ)
     → at < length before
-    → after ≡ set before at (smaller (get_or before at (pos 0)) (value x))
+    → to ≡ smaller (get_or before at (pos 0)) (value x)
     → (i : ℕ)
-    → LoweredTo value (λ y. (y ≡ x) × (at ≡ i)) (get_or before i (pos 0)) (get_or after i (pos 0))
-lowered_entry value at x before after inside stored i =
-    rw stored (⊎_elim own other (equal_or_not i at))
+    → LoweredTo value (λ y. (y ≡ x) × (at ≡ i)) (get_or before i (pos 0)) (get_or (set before at to) i (pos 0))
+lowered_entry value at x before to inside is_smaller i = ⊎_elim own other (equal_or_not i at)
   where
-    to : ℤ
-    to = smaller (get_or before at (pos 0)) (value x)
-
     own : i ≡ at → LoweredTo value (λ y. (y ≡ x) × (at ≡ i)) (get_or before i (pos 0)) (get_or (set before at to) i (pos 0))
     own e =
-        rw (e, get_or-set_same before at to (pos 0) inside)
+        rw (e, get_or-set_same before at to (pos 0) inside, is_smaller)
         (moved_alike Down ≤ℤ_refl down_trans _ _ _ (λ y h. (h, refl)) (λ y h. h.0) _ _ (lowered_at value x (get_or before at (pos 0))))
 
     other : (i ≡ at → ⊥) → LoweredTo value (λ y. (y ≡ x) × (at ≡ i)) (get_or before i (pos 0)) (get_or (set before at to) i (pos 0))
@@ -47,50 +43,38 @@ pub record LoweredUpTo (best : List ℤ) (places : List ℕ) (j : ℕ) (before a
   pub as_long : length after ≡ length before
   pub lowered : (i : ℕ) → LoweredTo (λ x. get_or best x (pos 0)) (λ x. (x < j) × (get_or places x 0 ≡ i)) (get_or before i (pos 0)) (get_or after i (pos 0))
 
--- to none
-pub none_lowered : (best : List ℤ) (places : List ℕ) (before : List ℤ) → LoweredUpTo best places 0 before before
-none_lowered best places before = record {
-  within = omega arith;
-  as_long = refl;
-  lowered = λ i. moved_to_nothing Down ≤ℤ_refl down_trans _ _ (λ x h. absurd (omega (arith, h.0))) _;
-}
-
-module _ {best : List ℤ} {places : List ℕ} {j : ℕ} {before after : List ℤ} (so_far : LoweredUpTo best places j before after) (next : List ℤ) (bound : ℤ)
-    (is_bound : bound ≡ get_or best j (pos 0)) where
+module _ {best : List ℤ} {places : List ℕ} {j : ℕ} {before after : List ℤ} (so_far : LoweredUpTo best places j before after) {at : ℕ} (inside : at < length before)
+    {to : ℤ} (is_smaller : to ≡ smaller (get_or after at (pos 0)) (get_or best j (pos 0))) where
   -- then one entry to the next bound: every row's past the first and that
-  then_one : (at : ℕ) → at < length before → next ≡ set after at (smaller (get_or after at (pos 0)) bound)
-      → (Both : ℕ → ℕ → Type 0)
+  then_one : (Both : ℕ → ℕ → Type 0)
       → ((i x : ℕ) → (x < j) × (get_or places x 0 ≡ i) → Both i x)
       → ((i : ℕ) → at ≡ i → Both i j)
       → ((i x : ℕ) → Both i x → ((x < j) × (get_or places x 0 ≡ i)) ⊎ ((x ≡ j) × (at ≡ i)))
       → (i : ℕ)
-      → LoweredTo (λ x. get_or best x (pos 0)) (Both i) (get_or before i (pos 0)) (get_or next i (pos 0))
-  then_one at inside stored Both from_first from-entry of_both i =
+      → LoweredTo (λ x. get_or best x (pos 0)) (Both i) (get_or before i (pos 0)) (get_or (set after at to) i (pos 0))
+  then_one Both from_first from-entry of_both i =
       moved_in_two Down ≤ℤ_refl down_trans _ _ (λ x. (x ≡ j) × (at ≡ i)) (Both i)
       (from_first i) (λ x h. subst (Both i) (sym h.0) (from-entry i h.1)) (of_both i) _ _ _ (so_far.lowered i)
-      (lowered_entry (λ x. get_or best x (pos 0)) at j after next (omega (arith, so_far.as_long)) (stored ∙ ap (λ (b : ℤ). set after at (smaller (get_or after at (pos 0)) b)) is_bound) i)
+      (lowered_entry (λ x. get_or best x (pos 0)) at j after to (omega (arith, so_far.as_long)) is_smaller i)
 
   -- to one bound more, which is on the next place
-  pub one_more_lowered : j < length places → get_or places j 0 < length before
-      → next ≡ set after (get_or places j 0) (smaller (get_or after (get_or places j 0) (pos 0)) bound)
-      → LoweredUpTo best places (j + 1) before next
-  one_more_lowered more inside stored = record {
+  pub one_more_lowered : j < length places → at ≡ get_or places j 0 → LoweredUpTo best places (j + 1) before (set after at to)
+  one_more_lowered more there = record {
     within = omega arith;
-    as_long = ap length stored ∙ length-set after (get_or places j 0) (smaller (get_or after (get_or places j 0) (pos 0)) bound) ∙ so_far.as_long;
-    lowered = then_one (get_or places j 0) inside stored (λ i x. (x < j + 1) × (get_or places x 0 ≡ i)) (λ i x h. (omega (arith, h.0), h.1)) (λ i e. (omega arith, e)) of_both;
+    as_long = length-set after at to ∙ so_far.as_long;
+    lowered = then_one (λ i x. (x < j + 1) × (get_or places x 0 ≡ i)) (λ i x h. (omega (arith, h.0), h.1)) (λ i e. (omega arith, sym there ∙ e)) of_both;
   }
     where
-      of_both : (i x : ℕ) → (x < j + 1) × (get_or places x 0 ≡ i) → ((x < j) × (get_or places x 0 ≡ i)) ⊎ ((x ≡ j) × (get_or places j 0 ≡ i))
+      of_both : (i x : ℕ) → (x < j + 1) × (get_or places x 0 ≡ i) → ((x < j) × (get_or places x 0 ≡ i)) ⊎ ((x ≡ j) × (at ≡ i))
       of_both i x h =
-          ⊎_elim (λ e. inr (e, ap (λ (y : ℕ). get_or places y 0) (sym e) ∙ h.1)) (λ d. inl (omega (arith, h.0), h.1)) (equal_or_not x j)
+          ⊎_elim (λ e. inr (e, there ∙ ap (λ (y : ℕ). get_or places y 0) (sym e) ∙ h.1)) (λ d. inl (omega (arith, h.0), h.1)) (equal_or_not x j)
 
   -- behind the last place, to the bound on row k itself
-  pub all_lowered : length places ≤ j → (k : ℕ) → k < length before → next ≡ set after k (smaller (get_or after k (pos 0)) bound)
-      → (i : ℕ)
-      → LoweredTo (λ x. get_or best x (pos 0)) (IsOn places k i) (get_or before i (pos 0)) (get_or next i (pos 0))
-  all_lowered last k inside stored =
-      then_one k inside stored (IsOn places k) (λ i x h. a_rival (omega (arith, so_far.within, h.0)) h.1) (λ i e. itself (omega (arith, so_far.within)) e) of_both
+  pub all_lowered : length places ≤ j → (i : ℕ)
+      → LoweredTo (λ x. get_or best x (pos 0)) (IsOn places at i) (get_or before i (pos 0)) (get_or (set after at to) i (pos 0))
+  all_lowered last =
+      then_one (IsOn places at) (λ i x h. a_rival (omega (arith, so_far.within, h.0)) h.1) (λ i e. itself (omega (arith, so_far.within)) e) of_both
     where
-      of_both : (i x : ℕ) → IsOn places k i x → ((x < j) × (get_or places x 0 ≡ i)) ⊎ ((x ≡ j) × (k ≡ i))
+      of_both : (i x : ℕ) → IsOn places at i x → ((x < j) × (get_or places x 0 ≡ i)) ⊎ ((x ≡ j) × (at ≡ i))
       of_both i x (a_rival h e) = inl (omega arith, e)
       of_both i x (itself h e) = inr (omega (arith, so_far.within), e)

@@ -1,5 +1,5 @@
 -- Signed numbers as 64 bits hold them: those within the bounds are held as they are, and so is the order of two.
-use mathlib.Core.Path.{◌≡◌, refl, subst₂}
+use mathlib.Core.Path.{◌≡◌, refl, ap₂, ◌∙◌, subst₂}
 use Prim.Native.Nat.{◌^◌, ◌<◌}
 use mathlib.Core.Bool.{Bool, true, false, cond}
 use native.Mathlib.Omega.{arith}
@@ -27,15 +27,17 @@ own_order a b less f g e = subst₂ (λ (x y : ℤ). lt_z x y ≡ less) (to_z-of
 pub zero_fits : SFits w64 (pos 0)
 zero_fits = record { sfits = omega arith }
 
--- the greater of two numbers is std's, and so is the smaller
+-- the greater of two numbers that fit is std's, and so is the smaller
 by_test : (test : Bool) (a b : ℤ) → cond test b a ≡ elim test [ true ↦ b | false ↦ a ]
 by_test true a b = refl
 by_test false a b = refl
 
-pub max_is_greater : (a b : ℤ) → int_max b a ≡ greater a b
+pub greater_held : {a b r : ℤ} → r ≡ int_max (held b) (held a) → SFits w64 r → SFits w64 a → SFits w64 b → held r ≡ greater a b
 unfolding greater
-max_is_greater a b = by_test (lt_z a b) a b
+greater_held {a} {b} {r} is r-fits a-fits b-fits =
+    to_z-of_z w64 r r-fits ∙ is ∙ ap₂ int_max (to_z-of_z w64 b b-fits) (to_z-of_z w64 a a-fits) ∙ by_test (lt_z a b) a b
 
-pub min_is_smaller : (a b : ℤ) → int_min a b ≡ smaller a b
+pub smaller_held : {a b r : ℤ} → r ≡ int_min (held a) (held b) → SFits w64 r → SFits w64 a → SFits w64 b → held r ≡ smaller a b
 unfolding smaller
-min_is_smaller a b = by_test (lt_z b a) a b
+smaller_held {a} {b} {r} is r-fits a-fits b-fits =
+    to_z-of_z w64 r r-fits ∙ is ∙ ap₂ int_min (to_z-of_z w64 a a-fits) (to_z-of_z w64 b b-fits) ∙ by_test (lt_z b a) a b

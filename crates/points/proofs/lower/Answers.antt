@@ -1,31 +1,28 @@
+use mathlib.Core.Path.{◌≡◌, ap, ◌∙◌}
 use Prim.Native.Nat.{◌<◌}
+use native.Mathlib.Nat.{le_refl}
 use native.Mathlib.Omega.{arith}
-use lib.ListN.{length, get_or}
+use lib.IntN.{pos}
+use lib.ListN.{length, get_or, length-append}
+use Rattle.std.proofs.Common.{rules}
+use Rattle.std.proofs.lemmas.Slice.Zip.{zip_turn, zip_end}
+use Rattle.theory.specs.Moved.{smaller}
 use Rattle.theory.proofs.At.{each_at}
-use Rattle.walks.proofs.Held.{held_as_it_is}
-use Rattle.points.proofs.Lowered.{none_lowered, one_more_lowered, all_lowered}
+use Rattle.walks.proofs.Held.{smaller_held}
+use Rattle.points.proofs.Lowered.{LoweredUpTo, one_more_lowered, all_lowered}
 use Rattle.points.proofs.lower.Goals as goal
 
-pub loop-j-init : goal.loop-j-init
-loop-j-init c = let a = c.args in none_lowered a.best.now a.place.now a.allowed.now
-
-pub lower_entry-requires : goal.lower_entry-requires
-lower_entry-requires c =
+pub loop-i-preserved : goal.loop-i-preserved
+loop-i-preserved c =
     let a = c.args in
-    let place_inside : get_or a.place.now c.loop-j.j 0 < length a.allowed.now = each_at (λ h. h < length c.args.allowed.now) c.args.place.now c.requires.all.0 c.loop-j.j c.loop-j-test.true in
-    omega (arith, place_inside, c.loop-j.invariant.as_long)
-
-pub loop-j-preserved : goal.loop-j-preserved
-loop-j-preserved c =
-    let a = c.args in
-    let place_inside : get_or a.place.now c.loop-j.j 0 < length a.allowed.now = each_at (λ h. h < length c.args.allowed.now) c.args.place.now c.requires.all.0 c.loop-j.j c.loop-j-test.true in
-    let so_far = c.loop-j.invariant in
-    let more = c.loop-j-test.true in
-    one_more_lowered so_far c.lower_entry.new.allowed _ (held_as_it_is _ (omega arith)) more place_inside c.lower_entry.ensures
-
-pub lower_entry-requires-2 : goal.lower_entry-requires-2
-lower_entry-requires-2 c = omega (arith, c.requires.all.1, c.loop-j.invariant.as_long)
+    let turn = zip_turn a.places.now a.best.now _ _ _ c.next.new.self _ (search rules) (search rules) c.loop-i.yielded_by _ c.in-Some.is c.next.ensures.steps in
+    let inside : c.in-Some.field-0-0.now < length a.allowed.now = omega (arith, turn.2 0, each_at (λ h. h < length c.args.allowed.now) c.args.places.now c.requires.all.0 (length c.loop-i.yielded) turn.0) in
+    let smaller-stored = smaller_held c.min.ensures.value (search rules) (search rules) (search rules) in
+    rw length-append (one_more_lowered c.loop-i.invariant inside (smaller-stored ∙ ap (smaller (get_or c.loop-i.allowed c.in-Some.field-0-0.now (pos 0))) (turn.3 (pos 0))) turn.0 (turn.2 0))
 
 pub returns : goal.returns
 returns c =
-    all_lowered c.loop-j.invariant c.lower_entry-2.new.allowed _ (held_as_it_is _ (omega arith)) c.loop-j-test.false _ c.requires.all.1 c.lower_entry-2.ensures
+    let a = c.args in
+    let last : length c.loop-i.yielded ≡ length a.places.now = omega (arith, zip_end a.places.now a.best.now _ _ _ c.next.new.self _ (search rules) (search rules) c.loop-i.yielded_by c.in-None.is c.next.ensures.steps) in
+    let all : LoweredUpTo a.best.now a.places.now (length a.places.now) a.allowed.now c.loop-i.allowed = rw last at c.loop-i.invariant in
+    all_lowered all c.requires.all.1 (smaller_held c.min-2.ensures.value (search rules) (search rules) (search rules)) (le_refl (length a.places.now))

@@ -5,11 +5,11 @@ use lib.IntN.{pos}
 use lib.ListN.{length, get_or}
 use lib.Seq.{length-take-le}
 use Rattle.std.proofs.lemmas.List.{get_or-take}
-use Rattle.std.specs.Int.{int_max}
+use Rattle.std.proofs.Common.{rules}
 use Rattle.theory.specs.Moved.{greater}
 use Rattle.theory.specs.Points.{floor_div}
 use Rattle.walks.specs.Quotients.{quotient_of}
-use Rattle.walks.proofs.Held.{held_as_it_is, max_is_greater}
+use Rattle.walks.proofs.Held.{held_as_it_is, greater_held}
 use Rattle.walks.proofs.Quotients.{jobs_within, quotient_above, quotient_own}
 use Rattle.walks.proofs.Lifted.{LiftedUpTo, one_more_lifted}
 use Rattle.walks.proofs.visit.Goals as goal
@@ -44,8 +44,6 @@ returns c =
     let last : loop.j ≡ n = omega (arith, length-take-le (length row.c.now) slack.new.jobs (omega (arith, row.small.few))) in
     let so-far : LiftedUpTo (quotient_of row.own row.c.now row.t.now) c.args.p n c.args.best.now loop.best = rw last at loop.invariant in
     let all = one_more_lifted _ _ _ _ _ _ so-far c.requires.c_in_bounds
-    (held_as_it_is c.max.result c.max.type_inv
-    ∙ c.max.ensures.value
-    ∙ ap₂ int_max (held_as_it_is slack.result slack.type_inv ∙ slack.ensures.value ∙ quotient_own _ _ _ _ _ (omega (arith, row.small.as_many))) (held_as_it_is (get_or loop.best n (pos 0)) (omega arith))
-    ∙ max_is_greater _ _) in
+    (greater_held c.max.ensures.value (search rules) (search rules) (search rules)
+    ∙ ap (greater (get_or loop.best n (pos 0))) (slack.ensures.value ∙ quotient_own _ _ _ _ _ (omega (arith, row.small.as_many)))) in
     λ k h. all.lifted k (omega arith)
