@@ -9,7 +9,11 @@ use Rattle.theory.specs.Gather.{All}
 use Rattle.theory.specs.Lists.{Shaped, rows_of}
 use Rattle.theory.proofs.Each.{all_map}
 use Rattle.theory.proofs.RowsOf.{rows_of_length, rows_of_places}
+use Rattle.rows.specs.Values.{rows_in}
+use Rattle.rows.specs.declared.Rows.{Rows}
 use Rattle.climbs.specs.Ranking.{numbers_at}
+use Rattle.climbs.specs.Placed.{AreRowsAt, AreFronts}
+use Rattle.climbs.specs.declared.at_places.RowsAt.{RowsAt}
 
 -- rows at places keep the limits where all rows do
 within_at_places : (rows : List Row) (places : List ℕ) → AllWithin rows → All (λ h. h < length rows) places → AllWithin (map (row_at rows) places)
@@ -40,3 +44,13 @@ module _ (cs ds ts places : List ℕ) where
         subst AllWithin (sym rows_at_places)
         (within_at_places (rows_of cs ds ts) places within
         (all_map places (λ h l. omega (arith, l, rows_of_length cs ds ts shaped.as_many_deadlines shaped.as_many_periods)) inside))
+
+-- the rows that are held for places are the set's rows there, as many as places
+module _ (rows : Rows) {places : List ℕ} {held : RowsAt} (at_places : AreRowsAt rows places held) {lists : Rows} (fronts : AreFronts held lists) where
+  pub rows_held : rows_in lists ≡ map (row_at (rows_in rows)) places
+  rows_held =
+      rw (fronts.executions, fronts.deadlines, fronts.periods, at_places.executions, at_places.deadlines, at_places.periods)
+      (rows_at_places rows.c.now rows.d.now rows.t.now places rows.shaped)
+
+  pub many_held : length lists.c.now ≡ length places
+  many_held = rw (fronts.executions, at_places.executions) (length_at places rows.c.now)

@@ -1,38 +1,42 @@
--- What is found for rows that all meet: their response times, and their allowances by either way.
+-- What is found for rows that all meet: one number for each row, and point allowances that are allowances.
+use mathlib.Core.Path.{◌≡◌, sym, subst}
 use Prim.Native.Nat.{ℕ, ◌<◌}
 use mathlib.Core.List.{List}
+use native.Mathlib.Omega.{arith}
 use lib.IntN.{pos}
-use lib.ListN.{length, get_or}
-use Rattle.theory.specs.Row.{AllWithin}
-use Rattle.theory.specs.Response.{AllMeet}
+use lib.ListN.{length, get_or, take}
+use Rattle.theory.specs.Row.{Row}
 use Rattle.theory.specs.Allowance.{IsAllowance}
 use Rattle.theory.specs.Points.{IsPointAllowance}
-use Rattle.theory.specs.Lists.{Shaped, rows_of}
+use Rattle.theory.specs.Lists.{ForEach}
 use Rattle.theory.proofs.Verdict.{within_steady}
 use Rattle.theory.proofs.Allowance.{allowance_of_points}
-use Rattle.climbs.proofs.InLists.{in_rows}
-use Rattle.responses.specs.declared.Verdict.{Verdict}
-use Rattle.responses.specs.declared.Verdict.TheVariants.{OnTime, Late}
-use Rattle.responses.specs.Verdict.{RespondsInTime, IsVerdict}
-use Rattle.responses.proofs.Meeting.{all_in_time_meet}
+use Rattle.rows.specs.Values.{rows_in}
+use Rattle.rows.specs.declared.Rows.{Rows}
+use Rattle.climbs.proofs.InLists.{in_rows, front_for_each}
+use Rattle.responses.specs.declared.timed.Timed.{Timed}
+use Rattle.responses.proofs.Meeting.{timed_meet}
 
-module _ (cs ds ts : List ℕ) (shaped : Shaped cs ds ts) where
-  -- where all rows meet, the verdict is that they are on time
-  pub meeting_on_time : AllMeet (rows_of cs ds ts) → (response : List ℕ) (verdict : Verdict) → IsVerdict (rows_of cs ds ts) response verdict
-      → (k : ℕ)
-      → k < length cs
-      → RespondsInTime (rows_of cs ds ts) response k
-  meeting_on_time all response OnTime said k h = said k (in_rows cs ds ts shaped h)
-  meeting_on_time all response (Late late) said k h = absurd (said.misses (all late said.in_set))
+-- the front of an array that has a number for each row of a set, which are these rows
+pub numbers_for_each :
+    (Right : List Row → ℕ → ℕ → Type 0) (rows same : Rows) (n : ℕ) (numbers : List ℕ)
+    → same ≡ rows
+    → n ≡ length rows.c.now
+    → length numbers ≡ 24
+    → ((k : ℕ) → k < length same.c.now → Right (rows_in same) k (get_or numbers k 0))
+    → ForEach (rows_in rows) (Right (rows_in rows)) (take n numbers)
+numbers_for_each Right rows same n numbers e many long right =
+    rw many
+    (subst (λ (rs : Rows). ForEach (rows_in rs) (Right (rows_in rs)) (take (length rs.c.now) numbers)) e
+    (front_for_each same.c.now same.d.now same.t.now same.shaped (Right (rows_in same)) numbers long right))
 
-  -- rows that are on time meet, so their point allowances are their allowances
-  pub allowances_of_points : AllWithin (rows_of cs ds ts) → (response allowed : List ℕ)
-      → ((k : ℕ) → k < length cs → RespondsInTime (rows_of cs ds ts) response k)
-      → ((i : ℕ) → i < length cs → IsPointAllowance (rows_of cs ds ts) i (pos (get_or allowed i 0)))
-      → (i : ℕ)
-      → i < length cs
-      → IsAllowance (rows_of cs ds ts) i (get_or allowed i 0)
-  allowances_of_points within response allowed in_time_lem are i h =
-      allowance_of_points (rows_of cs ds ts) (within_steady (rows_of cs ds ts) within) i (in_rows cs ds ts shaped h)
-      (all_in_time_meet cs ds ts response shaped in_time_lem)
-      (get_or allowed i 0) (are i h)
+-- rows that are on time meet, so their point allowances are their allowances
+pub allowances_of_points :
+    (timed : Timed) (allowed : List ℕ)
+    → ((i : ℕ) → i < length timed.set.rows.c.now → IsPointAllowance (rows_in timed.set.rows) i (pos (get_or allowed i 0)))
+    → (i : ℕ)
+    → i < length timed.set.rows.c.now
+    → IsAllowance (rows_in timed.set.rows) i (get_or allowed i 0)
+allowances_of_points timed allowed are i inside =
+    let rows = timed.set.rows in
+    allowance_of_points (rows_in rows) (within_steady (rows_in rows) rows.within) i (in_rows rows.c.now rows.d.now rows.t.now rows.shaped inside) (timed_meet timed) (get_or allowed i 0) (are i inside)

@@ -1,6 +1,7 @@
 -- What stands in a list to whose places numbers were written, and one number more.
 use mathlib.Core.Path.{◌≡◌, refl, ◌∙◌}
 use Prim.Native.Nat.{ℕ, zero, suc, ◌≤◌, ◌<◌}
+use mathlib.Core.Logic.{◌⊎◌, inl, inr}
 use mathlib.Core.List.{List, [], ◌∷◌}
 use native.Mathlib.Omega.{arith}
 use lib.ListN.{length, get_or, drop, set, length-set, drop_of_length-le}
@@ -39,17 +40,15 @@ scattered_at list (place ∷ places) (number ∷ numbers) same inside once (suc 
     scattered_at (set list place number) places numbers (omega arith) (all_map places (λ p l. omega (arith, length-set list place number)) inside.1) once.1 j (omega arith)
 
 -- the work that is left, begun with its first number
-pub scattered_first : (list places numbers : List ℕ) (j : ℕ) → j < length places → length numbers ≡ length places
-    → scattered list (drop j places) (drop j numbers) ≡ scattered (set list (get_or places j 0) (get_or numbers j 0)) (drop (suc j) places) (drop (suc j) numbers)
+pub scattered_next : (list places numbers places' numbers' : List ℕ) {place number : ℕ} → places ≡ place ∷ places' → numbers ≡ number ∷ numbers'
+    → scattered (set list place number) places' numbers' ≡ scattered list places numbers
 unfolding scattered
-scattered_first list places numbers j h same =
-    rw (drop-cons places j 0 h, drop-cons numbers j 0 (omega arith)) refl
+scattered_next list places numbers places' numbers' e f = rw (e, f) refl
 
--- behind the last place nothing is left
-pub scattered_done : (list places numbers : List ℕ) (j : ℕ) → length places ≤ j → scattered list (drop j places) (drop j numbers) ≡ list
+-- behind the last place or number nothing is left
+pub scattered_done : (list places numbers : List ℕ) → (places ≡ []) ⊎ (numbers ≡ []) → scattered list places numbers ≡ list
 unfolding scattered
-scattered_done list places numbers j h = rw (drop_of_length-le places h) refl
-
--- the place of the next number is inside
-pub next_place_inside : (list places : List ℕ) (j : ℕ) → All (λ h. h < length list) places → j < length places → get_or places j 0 < length list
-next_place_inside list places j inside h = all_at (λ p. p < length list) (mem_get_or places j h) inside
+scattered_done list [] numbers none = refl
+scattered_done list (place ∷ places) [] none = refl
+scattered_done list (place ∷ places) (number ∷ numbers) (inl none) = absurd (cc)
+scattered_done list (place ∷ places) (number ∷ numbers) (inr none) = absurd (cc)

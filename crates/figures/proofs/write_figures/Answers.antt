@@ -4,54 +4,51 @@ use native.Mathlib.Omega.{arith}
 use native.Mathlib.Numerals.{add-one}
 use borrow.Author.Rules.{rules}
 use lib.ListN.{length}
-use Rattle.theory.specs.Lists.{rows_of}
+use Rattle.rows.specs.Values.{rows_in}
+use Rattle.rows.specs.declared.Rows.{Rows}
 use Rattle.theory.proofs.RowsOf.{rows_of_length}
-use Rattle.cores.proofs.Held.{held_count, held_inside}
+use Rattle.cores.proofs.Held.{held_count}
 use Rattle.figures.proofs.Written.{FiguredUpTo}
 use Rattle.figures.proofs.Placed.{none_yet, placed_meet, placed_no_more, placed_in_table, placed_figured}
 use Rattle.figures.proofs.write_figures.Goals as goal
 
+-- there are as many rows as numbers in each list
+as_many : (rows : Rows) → length (rows_in rows) ≡ length rows.c.now
+as_many rows = rows_of_length rows.c.now rows.d.now rows.t.now rows.shaped.as_many_deadlines rows.shaped.as_many_periods
+
 pub loop-m-init : goal.loop-m-init
-loop-m-init c =
-    (omega arith, c.requires.responses_len.0, c.requires.responses_len.1, λ placed. none_yet placed _ _)
+loop-m-init c = (c.requires.responses_len.0, c.requires.responses_len.1, λ placed. none_yet placed _ _)
 
-pub slice_bounds-places-end : goal.slice_bounds-places-end
-slice_bounds-places-end c = held_inside c.requires.placed_rows.holds c.loop-m.m (omega arith)
-
-pub slice_bounds-write_at-end : goal.slice_bounds-write_at-end
-slice_bounds-write_at-end c = sym (held_count c.requires.placed_rows.holds c.loop-m.m (omega arith))
+pub shared_ref_as_front-places : goal.shared_ref_as_front-places
+shared_ref_as_front-places c =
+    let rows = c.args.rows.now in
+    let placed = c.requires.placed_rows in
+    omega (arith, held_count placed.holds c.loop-m.m c.loop-m-test.true, placed_no_more placed c.loop-m.m c.loop-m-test.true, as_many rows, rows.shaped.no_25th)
 
 pub write_at-requires : goal.write_at-requires
 write_at-requires c =
-    let a = c.args in
-    let as_many : length (rows_of a.c.now a.d.now a.t.now) ≡ length a.c.now =
-    rows_of_length a.c.now a.d.now a.t.now c.requires.shaped.0.as_many_deadlines c.requires.shaped.0.as_many_periods in
-    let loop = c.loop-m in
-    let below : loop.m < 8 = omega arith in record {
-      shaped = c.requires.shaped;
-      places_len_bound = (omega (arith, as_many, c.requires.shaped.0.no_25th, placed_no_more c.requires.placed_rows loop.m below), rw as_many at (placed_in_table c.requires.placed_rows loop.m below));
-      all_meet = placed_meet c.requires.placed_rows loop.m below;
-      responses_len = (omega arith, omega arith);
+    let rows = c.args.rows.now in
+    let m = c.loop-m.m in
+    let below = c.loop-m-test.true in record {
+      places_len_bound = (
+        omega (arith, as_many rows, rows.shaped.no_25th, placed_no_more c.requires.placed_rows m below),
+        rw (as_many rows) at (placed_in_table c.requires.placed_rows m below),
+      );
+      all_meet = placed_meet c.requires.placed_rows m below;
+      responses_len = (c.loop-m.invariant.0, c.loop-m.invariant.1);
     }
 
 pub loop-m-preserved : goal.loop-m-preserved
 loop-m-preserved c =
-    let a = c.args in
-    let as_many : length (rows_of a.c.now a.d.now a.t.now) ≡ length a.c.now =
-    rows_of_length a.c.now a.d.now a.t.now c.requires.shaped.0.as_many_deadlines c.requires.shaped.0.as_many_periods in
     let loop = c.loop-m in
-    let figured = c.write_at.ensures in (
-      omega arith,
+    let rows = as_many c.args.rows.now in (
       search rules,
       search rules,
       λ placed. subst (FiguredUpTo _ placed.assignment _ _) (sym (add-one loop.m))
-          (placed_figured placed loop.m (omega arith) _ _ _ _ (loop.invariant.1 ∙ sym as_many) (loop.invariant.2 ∙ sym as_many) (loop.invariant.3 placed) figured),
+          (placed_figured placed loop.m c.loop-m-test.true _ _ _ _ (loop.invariant.0 ∙ sym rows) (loop.invariant.1 ∙ sym rows) (loop.invariant.2 placed) c.write_at.ensures),
     )
 
 pub returns : goal.returns
 returns c placed i in_table =
-    let a = c.args in
-    let as_many : length (rows_of a.c.now a.d.now a.t.now) ≡ length a.c.now =
-    rows_of_length a.c.now a.d.now a.t.now c.requires.shaped.0.as_many_deadlines c.requires.shaped.0.as_many_periods in
-    let in_rows : i < length (rows_of a.c.now a.d.now a.t.now) = omega (arith, as_many) in
-    c.loop-m.invariant.3 placed i in_rows (omega (arith, (placed.on_some_core i in_rows).1))
+    let in_rows : i < length (rows_in c.args.rows.now) = omega (arith, as_many c.args.rows.now) in
+    c.loop-m.invariant.2 placed i in_rows (omega (arith, (placed.on_some_core i in_rows).1))
