@@ -1,8 +1,7 @@
 -- What is found for rows that all meet: one number for each row, and point allowances that are allowances.
-use mathlib.Core.Path.{◌≡◌, sym, subst}
+use mathlib.Core.Path.{◌≡◌, subst}
 use Prim.Native.Nat.{ℕ, ◌<◌}
 use mathlib.Core.List.{List}
-use native.Mathlib.Omega.{arith}
 use lib.IntN.{pos}
 use lib.ListN.{length, get_or, take}
 use Rattle.theory.specs.Row.{Row}

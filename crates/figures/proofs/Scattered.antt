@@ -1,14 +1,13 @@
 -- What stands in a list to whose places numbers were written, and one number more.
 use mathlib.Core.Path.{◌≡◌, refl, ◌∙◌}
-use Prim.Native.Nat.{ℕ, zero, suc, ◌≤◌, ◌<◌}
+use Prim.Native.Nat.{ℕ, zero, suc, ◌<◌}
 use mathlib.Core.Logic.{◌⊎◌, inl, inr}
 use mathlib.Core.List.{List, [], ◌∷◌}
 use native.Mathlib.Omega.{arith}
-use lib.ListN.{length, get_or, drop, set, length-set, drop_of_length-le}
-use lib.Seq.{drop-cons, get_or-set_same, get_or-set_other}
+use lib.ListN.{length, get_or, set, length-set}
+use lib.Seq.{get_or-set_same, get_or-set_other}
 use Rattle.theory.specs.Gather.{All}
 use Rattle.theory.proofs.Each.{all_map}
-use Rattle.theory.proofs.Member.{all_at, mem_get_or}
 use Rattle.theory.proofs.Order.{Ordered}
 use Rattle.figures.specs.Scattered.{scattered}
 

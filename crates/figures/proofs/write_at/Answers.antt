@@ -1,7 +1,6 @@
 -- `write_at` meets its contract: with no place it has nothing to write, and else the rows at the places are the core's.
-use mathlib.Core.Path.{sym, subst}
+use mathlib.Core.Path.{sym}
 use Rattle.std.proofs.Common.{rules}
-use Rattle.theory.specs.Response.{AllMeet}
 use Rattle.climbs.proofs.Gathered.{rows_held, many_held}
 use Rattle.figures.proofs.Written.{figured_same, none_figured}
 use Rattle.figures.proofs.write_at.Goals as goal
