@@ -23,13 +23,15 @@ pub shared_ref_as_front-places : goal.shared_ref_as_front-places
 shared_ref_as_front-places c =
     let rows = c.args.rows.now in
     let placed = c.requires.placed_rows in
-    omega (arith, held_count placed.holds c.loop-m.m c.loop-m-test.true, placed_no_more placed c.loop-m.m c.loop-m-test.true, as_many rows, rows.shaped.no_25th)
+    let m = c.loop-m.m in
+    let below : m < 8 = omega arith in
+    omega (arith, held_count placed.holds m below, placed_no_more placed m below, as_many rows, rows.shaped.no_25th)
 
 pub write_at-requires : goal.write_at-requires
 write_at-requires c =
     let rows = c.args.rows.now in
     let m = c.loop-m.m in
-    let below = c.loop-m-test.true in record {
+    let below : m < 8 = omega arith in record {
       places_len_bound = (
         omega (arith, as_many rows, rows.shaped.no_25th, placed_no_more c.requires.placed_rows m below),
         rw (as_many rows) at (placed_in_table c.requires.placed_rows m below),
@@ -45,7 +47,7 @@ loop-m-preserved c =
       search rules,
       search rules,
       λ placed. subst (FiguredUpTo _ placed.assignment _ _) (sym (add-one loop.m))
-          (placed_figured placed loop.m c.loop-m-test.true _ _ _ _ (loop.invariant.0 ∙ sym rows) (loop.invariant.1 ∙ sym rows) (loop.invariant.2 placed) c.write_at.ensures),
+          (placed_figured placed loop.m (omega arith) _ _ _ _ (loop.invariant.0 ∙ sym rows) (loop.invariant.1 ∙ sym rows) (loop.invariant.2 placed) c.write_at.ensures),
     )
 
 pub returns : goal.returns
