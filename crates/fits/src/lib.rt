@@ -42,15 +42,7 @@ fn smallest(allowed: &[i64]) -> i64
     requires { 1 ≤ length allowed.now }
     ensures { IsSmallest allowed.now (length allowed.now) result }
 {
-    let mut least = allowed[0];
-    let mut i = 1;
-    while i < allowed.len() {
-        if allowed[i] < least {
-            least = allowed[i];
-        }
-        i += 1;
-    }
-    least
+    allowed.iter().copied().min().unwrap()
 }
 
 // The fit by the rows' points.

@@ -5,7 +5,10 @@ use Prim.Native.Nat.{ℕ, suc, ◌≤◌, ◌<◌}
 use mathlib.Core.Bool.{Bool, true, false}
 use mathlib.Core.Logic.{⊎_elim}
 use mathlib.Core.List.Memᴰ
-use mathlib.Core.List.{List, Memᴰ}
+use mathlib.Core.List.{List, [], ◌∷◌, ◌++◌, Memᴰ}
+use Rattle.std.proofs.Common.{append_assoc, append-nil, add-one}
+use Rattle.std.proofs.lemmas.List.{length_push}
+use Rattle.std.proofs.Math.Seq.{get_or-append_seam}
 use native.Mathlib.Omega.{arith}
 use borrow.Author.Tests.{leb-true, leb-false}
 use lib.Dec.{leb}
@@ -97,3 +100,33 @@ module _ (ts : List ℕ) (limit last : ℕ) where
     above_last = done.above_last;
     least = λ q m above. let p = done.no_later q m above in omega (arith, p.not_behind, Memᴰ.eq_of_singleton p.yielded);
   }
+
+  -- of the periods those of the levels that are left, and those of the levels passed; the walk of what is left goes on from a time
+  pub record Descending (left : List ℕ) (time : ℕ) : Type 0 where
+    pub passed : List ℕ
+    pub together : ts ≡ left ++ passed
+    pub so_far : Descended (length left) time
+
+  pub descending_begins : last < limit → Descending ts limit
+  descending_begins h = record { passed = []; together = sym (append-nil ts); so_far = descent_begins h }
+
+  -- the last of those left is passed
+  module _ (left before : List ℕ) (m time s : ℕ) (at_hand : Descending left time) (left_is : left ≡ before ++ m ∷ []) (multiple : s ≡ last_multiple m time) where
+    together : ts ≡ before ++ (m ∷ at_hand.passed)
+    together = at_hand.together ∙ ap (λ (xs : List ℕ). xs ++ at_hand.passed) left_is ∙ append_assoc before (m ∷ []) at_hand.passed
+
+    at_level : Descended (suc (length before)) time
+    at_level = subst (λ (level : ℕ). Descended level time) (ap length left_is ∙ length_push before m ∙ add-one (length before)) at_hand.so_far
+
+    multiple_here : s ≡ last_multiple (get_or ts (length before) 0) time
+    multiple_here = multiple ∙ ap (λ (T : ℕ). last_multiple T time) (sym (ap (λ (xs : List ℕ). get_or xs (length before) 0) together ∙ get_or-append_seam before m at_hand.passed 0))
+
+    pub descending_to_multiple : last < s → Descending before s
+    descending_to_multiple above = record { passed = m ∷ at_hand.passed; together = together; so_far = descent_to_multiple at_level s multiple_here above }
+
+    pub descending_at_time : s ≤ last → Descending before time
+    descending_at_time below = record { passed = m ∷ at_hand.passed; together = together; so_far = descent_at_time at_level s multiple_here below }
+
+  -- none is left
+  pub descending_ends : {left : List ℕ} {time : ℕ} → length left ≡ 0 → Descending left time → IsNextPoint ts limit last time
+  descending_ends {left} {time} none done = descent_ends (subst (λ (level : ℕ). Descended level time) none done.so_far)

@@ -35,10 +35,8 @@ fn next_point(limit: u32, last: u32, t: &[u32]) -> u32
     ensures { IsNextPoint t.now limit last result }
 {
     let mut time = limit;
-    let mut level = t.len();
-    while 0 < level {
-        level -= 1;
-        let stop = walks::last_multiple(t[level], time);
+    for m in t.iter().rev() {
+        let stop = walks::last_multiple(*m, time);
         if last < stop {
             time = stop;
         }
@@ -139,11 +137,7 @@ fn place_of(order: &[usize], i: usize) -> usize
     requires { (length order.now ≤ 24) × Memᴰ i order.now }
     ensures { (result < length order.now) × (get_or order.now result 0 ≡ i) }
 {
-    let mut j = 0;
-    while order[j] != i {
-        j += 1;
-    }
-    j
+    order.iter().position(|k| *k == i).unwrap()
 }
 
 // The row that limits row i of a set that is on time, and the point at which it does.

@@ -1,31 +1,20 @@
-use mathlib.Core.Path.{ap, ◌∙◌}
-use Prim.Native.Nat.{ℕ}
-use mathlib.Core.Logic.{⊎_elim}
-use native.Mathlib.Omega.{arith}
+-- `place_of`: a member of the order stands at a place, so the search does not end without one.
+use Rattle.std.proofs.Common.{◌≡◌, ℕ, ◌<◌, Bool, false, arith, rules, tests}
+use Rattle.std.specs.List.{position, position_or_len}
+use Rattle.std.proofs.lemmas.Grind.{common_steps}
+use Rattle.std.proofs.lemmas.Iterator.{YieldsList-from_slice}
+use Rattle.std.proofs.lemmas.Iterator.Search.{position_from_yields_List}
+use Rattle.std.proofs.lemmas.List.Sums.{fails_before_first}
+use lib.Dec.{eqb}
 use lib.ListN.{get_or}
 use Rattle.theory.proofs.At.{stands_in}
-use Rattle.theory.proofs.Tests.{equal_or_not}
 use Rattle.reasons.proofs.place_of.Goals as goal
 
-pub loop-j-init : goal.loop-j-init
-loop-j-init c = (stands_in c.requires.1, omega arith)
-
-pub offset_bounds-order-j : goal.offset_bounds-order-j
-offset_bounds-order-j c = omega (arith, c.loop-j.invariant.0.inside, c.loop-j.invariant.1, c.requires.0)
-
-pub bounds-order-j : goal.bounds-order-j
-bounds-order-j c = omega (arith, c.loop-j.invariant.0.inside, c.loop-j.invariant.1)
-
-pub overflow_add-j : goal.overflow_add-j
-overflow_add-j c = omega (arith, c.loop-j.invariant.0.inside, c.loop-j.invariant.1, c.requires.0)
-
-pub loop-j-smaller : goal.loop-j-smaller
-loop-j-smaller c = omega (arith, c.loop-j.invariant.0.inside, c.loop-j.invariant.1)
-
-pub loop-j-preserved : goal.loop-j-preserved
-loop-j-preserved c =
-    let stands = c.loop-j.invariant.0 in
-    (stands, ⊎_elim (λ e. absurd (c.loop-j-test.true (ap (λ (n : ℕ). get_or c.args.order.now n 0) e ∙ stands.there))) (λ d. omega (arith, c.loop-j.invariant.1)) (equal_or_not c.loop-j.j stands.place))
-
-pub returns : goal.returns
-returns c = (omega (arith, c.loop-j.invariant.0.inside, c.loop-j.invariant.1), c.loop-j-test.false)
+pub unwrap-requires : goal.unwrap-requires
+unwrap-requires c =
+    let order = c.args.order.now in
+    let test : ℕ → Bool = λ k. eqb k c.args.i in
+    let stands = stands_in c.requires.1 in
+    let found : c.position.result ≡ position test order = position_from_yields_List test _ _ _ c.position.ensures.ran (YieldsList-from_slice order cc) (λ x b q k. search (rules, tests)) in
+    let before : stands.place < position_or_len test order → test (get_or order stands.place 0) ≡ false = fails_before_first test order stands.place 0 in
+    grind (arith, common_steps, before, found, stands.inside, stands.there)
