@@ -1,13 +1,16 @@
--- What short climbs must tell of a row with its own time and these rows above it.
-use Rattle.std.specs.Prelude.{ℕ, ◌≤◌, ◌<◌, List}
+-- What short climbs must tell of a row with the rows above it.
+use Rattle.std.specs.Prelude.{ℕ, ◌≤◌, ◌<◌, Option, Some, None, Result, Ok, Err}
 use Rattle.theory.specs.Climb.{RoomAt, LeastRoom}
-use Rattle.demands.specs.Levels.{load_of}
-use Rattle.raises.specs.Raise.{raised_load, LargestRaise}
+use Rattle.demands.specs.Loads.{load_in, raised_load}
+use Rattle.demands.specs.declared.ranked.RankedRow.{RankedRow}
+use Rattle.demands.specs.declared.ranked.Raise.{Raise}
+use Rattle.raises.specs.Raise.{LargestRaise}
+use Rattle.raises.specs.declared.LeftOff.{LeftOff}
 use Rattle.fits.specs.declared.Judged.{Judged}
-use Rattle.fits.specs.declared.Judged.TheVariants.{Meets, Misses, LeftOff}
 
--- its response time and the largest raise, up to `most`, of a row of a period, that it misses, or nothing
-abbrev pub IsJudged : ℕ → List ℕ → List ℕ → ℕ → ℕ → ℕ → Judged → Type 0
-IsJudged own cs ts period limit most (Meets R a) = (LeastRoom (load_of own cs ts) R × (R ≤ limit)) × LargestRaise (raised_load own cs ts period) limit most a
-IsJudged own cs ts period limit most Misses = (S : ℕ) → RoomAt (load_of own cs ts) S → limit < S
-IsJudged own cs ts period limit most LeftOff = Unit {0}
+-- its response time and the largest raise, up to the most, of a row of a period, that it misses, or nothing
+abbrev pub IsJudged : RankedRow → Raise → Result (Option Judged) LeftOff → Type 0
+IsJudged row most (Ok (Some judged)) =
+    (LeastRoom (load_in row) judged.response × (judged.response ≤ row.limit)) × LargestRaise (raised_load row.own row.c.now row.t.now most.period) row.limit most.more judged.raise
+IsJudged row most (Ok None) = (S : ℕ) → RoomAt (load_in row) S → row.limit < S
+IsJudged row most (Err left_off) = Unit {0}

@@ -1,5 +1,5 @@
--- The smallest of numbers, and the shorter of two periods.
-use Rattle.std.specs.Prelude.{◌≡◌, ℕ, ◌≤◌, ◌<◌, ◌⊎◌, List, ℤ, pos, get_or, ◌≤ℤ◌}
+-- The smallest of numbers.
+use Rattle.std.specs.Prelude.{◌≡◌, ℕ, ◌<◌, List, ℤ, pos, get_or, ◌≤ℤ◌}
 
 -- z is one of the first n numbers of a list, and at most each of them
 pub record IsSmallest (numbers : List ℤ) (n : ℕ) (z : ℤ) : Type 0 where
@@ -7,9 +7,3 @@ pub record IsSmallest (numbers : List ℤ) (n : ℕ) (z : ℤ) : Type 0 where
   pub inside : place < n
   pub there : get_or numbers place (pos 0) ≡ z
   pub at_most_each : (i : ℕ) → i < n → z ≤ℤ get_or numbers i (pos 0)
-
--- r is one of two periods, and at most each of them
-pub record IsShorter (a b r : ℕ) : Type 0 where
-  pub one_of_them : (r ≡ a) ⊎ (r ≡ b)
-  pub at_most_first : r ≤ a
-  pub at_most_second : r ≤ b

@@ -2,39 +2,24 @@
 // points where a climb takes too many rounds.
 #![tactic(auto)]
 
-ghost use Rattle.std.specs.Prelude.{◌≡◌, ◌≤◌, length, take};
-ghost use Rattle.theory.specs.Row.{AllWithin};
-ghost use Rattle.theory.specs.Climb.{LeastRoom, Start};
-ghost use Rattle.theory.specs.Lists.{Shaped, rows_of};
-ghost use Rattle.demands.specs.Levels.{load_of, Small};
-ghost use Rattle.climbs.specs.Ranking.{ranking_by};
+ghost use Rattle.std.specs.Prelude.{◌≤◌, length};
+ghost use Rattle.theory.specs.Climb.{Start};
+ghost use Rattle.rows.specs.Values.{rows_in};
+ghost use Rattle.demands.specs.Loads.{load_in};
 ghost use Rattle.fits.specs.Fit.{IsFit, IsShortFit};
 ghost use Rattle.fits.specs.Judged.{IsJudged};
-ghost use Rattle.fits.specs.Smallest.{IsSmallest, IsShorter};
+ghost use Rattle.fits.specs.Smallest.{IsSmallest};
 
-use raises::{Raise, ShortClimb};
+use climbs::RankedSet;
+use demands::{Raise, RankedRow};
+use raises::LeftOff;
+use rows::Rows;
 
-// The core takes the rows, with its core allowance; or it does not.
-#[derive(Drop)]
-pub enum Fit {
-    Takes(u32),
-    Refuses,
-}
-
-// What short climbs tell of a row: its response time and the largest raise, that it misses, or nothing.
-#[derive(Drop)]
-pub enum Judged {
-    Meets(u32, u32),
-    Misses,
-    LeftOff,
-}
-
-// What short climbs tell of a set: that the core takes it, with its core allowance, that it does not, or nothing.
-#[derive(Drop)]
-pub enum ShortFit {
-    Takes(u32),
-    Refuses,
-    LeftOff,
+// What short climbs tell of a row that meets: its response time and the largest raise.
+#[derive(Clone, Copy)]
+pub struct Judged {
+    pub response: u32,
+    pub raise: u32,
 }
 
 // The smallest of the rows' allowances.
@@ -45,125 +30,68 @@ fn smallest(allowed: &[i64]) -> i64
     allowed.iter().copied().min().unwrap()
 }
 
-// The fit by the rows' points.
-fn fit_by_points(c: &[u32], d: &[u32], t: &[u32], order: &[usize; 24]) -> Fit
-    requires shaped { Shaped c.now d.now t.now × AllWithin (rows_of c.now d.now t.now) }
-    requires order_value { take (length d.now) order.now ≡ ranking_by d.now }
-    ensures { IsFit (rows_of c.now d.now t.now) result }
+// The fit by the rows' points: the smallest of their allowances, where that is no negative number.
+fn fit_by_points(set: &RankedSet) -> Option<u32>
+    ensures { IsFit (rows_in set.now.rows) result }
 {
-    let allowed = points::point_allowances(c, d, t, order);
-    let least = smallest(&allowed[..c.len()]);
-    if least < 0 {
-        Fit::Refuses
-    } else {
-        let allowance = least as u32;
-        Fit::Takes(allowance)
-    }
+    let allowed = points::point_allowances(set);
+    let least = smallest(&allowed[..set.rows.c.len()]);
+    u32::try_from(least).ok()
 }
 
-// The row's largest raise, up to one given, after its response time.
-fn raise_of(
-    response: u32,
-    limit: u32,
-    own: u32,
-    c: &[u32],
-    t: &[u32],
-    period: u32,
-    most: u32,
-) -> Judged
-    requires small { Small c.now t.now }
-    requires limit_bound { (limit ≤ 1_000_000) × (own ≤ 1_000_000) }
-    requires most_le_period { (most ≤ period) × (1 ≤ period) × (period ≤ 1_000_000) }
-    requires least_room { LeastRoom (load_of own c.now t.now) response × (response ≤ limit) }
-    ensures { IsJudged own c.now t.now period limit most result }
+// A row's response time, by a climb from a start, and the largest raise, up to one given, with which it still meets; or none, where it misses.
+fn judge(start: u32, row: &RankedRow, most: &Raise) -> Result<Option<Judged>, LeftOff>
+    requires { Start (load_in row.now) start }
+    ensures { IsJudged row.now most.now result }
 {
-    match raises::largest_raise(response, limit, own, c, t, period, most, 300) {
-        Raise::Largest(a) => Judged::Meets(response, a),
-        Raise::LeftOff => Judged::LeftOff,
-    }
-}
-
-// A row's response time, by a climb from a start, and the largest raise, up to one given, of a row of this period with which it still meets.
-fn judge(start: u32, limit: u32, own: u32, c: &[u32], t: &[u32], period: u32, most: u32) -> Judged
-    requires small { Small c.now t.now }
-    requires limit_bound { (limit ≤ 1_000_000) × (own ≤ 1_000_000) }
-    requires most_le_period { (most ≤ period) × (1 ≤ period) × (period ≤ 1_000_000) }
-    requires start { Start (load_of own c.now t.now) start }
-    ensures { IsJudged own c.now t.now period limit most result }
-{
-    match raises::climb_raised(start, limit, own, c, t, 0, period, 300) {
-        ShortClimb::Responds(r) => raise_of(r, limit, own, c, t, period, most),
-        ShortClimb::Misses => Judged::Misses,
-        ShortClimb::LeftOff => Judged::LeftOff,
-    }
-}
-
-// The shorter of two periods.
-fn shorter(a: u32, b: u32) -> u32
-    ensures { IsShorter a b result }
-{
-    if b < a { b } else { a }
+    let no_raise = Raise {
+        more: 0,
+        period: most.period,
+    };
+    let Some(response) = raises::climb_raised(start, row, &no_raise, 300)? else {
+        return Ok(None);
+    };
+    let raise = raises::largest_raise(response, row, most, 300)?;
+    Ok(Some(Judged { response, raise }))
 }
 
 // The fit by short climbs. For each row by rank only the row that counts most in its load is raised: of those above it the one of the shortest period, or
 // itself where there is none.
-fn fit_by_climbs(c: &[u32], d: &[u32], t: &[u32], order: &[usize; 24]) -> ShortFit
-    requires shaped { Shaped c.now d.now t.now × AllWithin (rows_of c.now d.now t.now) }
-    requires order_value { take (length d.now) order.now ≡ ranking_by d.now }
-    ensures { IsShortFit (rows_of c.now d.now t.now) result }
+fn fit_by_climbs(set: &RankedSet) -> Result<Option<u32>, LeftOff>
+    ensures { IsShortFit (rows_in set.now.rows) result }
 {
-    let n = c.len();
-    let places: &[usize] = order;
-    let by_rank = &places[..n];
-    let cs = climbs::gather(c, by_rank);
-    let ts = climbs::gather(t, by_rank);
-    let mut allowance = 1_000_000;
-    let mut period = 1_000_000;
+    let by_rank = set.by_rank();
+    let mut most = Raise {
+        more: 1_000_000,
+        period: 1_000_000,
+    };
     // The response time of the row before.
     let mut before = 0;
-    let mut j = 0;
-    while j < n {
-        let k = order[j];
-        let own = cs[j];
-        match judge(
-            before + own,
-            d[k],
-            own,
-            &cs[..j],
-            &ts[..j],
-            period,
-            allowance,
-        ) {
-            Judged::Meets(response, raise) => {
-                before = response;
-                allowance = raise;
-            }
-            Judged::Misses => {
-                return ShortFit::Refuses;
-            }
-            Judged::LeftOff => {
-                return ShortFit::LeftOff;
-            }
-        }
-        period = shorter(period, ts[j]);
-        j += 1;
+    for j in 0..by_rank.c.len() {
+        let row = climbs::row_at(&by_rank, j);
+        let Some(judged) = judge(before + row.own, &row, &most)? else {
+            return Ok(None);
+        };
+        before = judged.response;
+        most = Raise {
+            more: judged.raise,
+            period: most.period.min(by_rank.t[j]),
+        };
     }
-    ShortFit::Takes(allowance)
+    Ok(Some(most.more))
 }
 
-// Whether a core takes rows.
-pub fn fit_of(c: &[u32], d: &[u32], t: &[u32]) -> Fit
-    requires { Shaped c.now d.now t.now × AllWithin (rows_of c.now d.now t.now) }
-    ensures { IsFit (rows_of c.now d.now t.now) result }
+// Whether a core takes rows, and then its core allowance with them.
+pub fn fit_of(rows: &Rows) -> Option<u32>
+    ensures { IsFit (rows_in rows.now) result }
 {
-    let order = climbs::ranking(d);
+    let set = climbs::ranked(*rows);
     // Few rows have few points.
-    if c.len() <= 6 {
-        return fit_by_points(c, d, t, &order);
+    if rows.c.len() <= 6 {
+        return fit_by_points(&set);
     }
-    match fit_by_climbs(c, d, t, &order) {
-        ShortFit::Takes(allowance) => Fit::Takes(allowance),
-        ShortFit::Refuses => Fit::Refuses,
-        ShortFit::LeftOff => fit_by_points(c, d, t, &order),
+    match fit_by_climbs(&set) {
+        Ok(fit) => fit,
+        Err(LeftOff) => fit_by_points(&set),
     }
 }
