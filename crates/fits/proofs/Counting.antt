@@ -1,11 +1,11 @@
 -- The rows of a set by rank: of the rows before a place, one of the shortest period counts most in the load of the row at the place; where none stands before
 -- it, the row itself does.
 use mathlib.Core.Path.{◌≡◌, sym, subst}
+use Rattle.std.proofs.Common.{min}
 use Prim.Native.Nat.{ℕ, ◌+◌, ◌≤◌, ◌<◌}
 use mathlib.Core.Bool.{Bool}
 use mathlib.Core.Logic.{◌⊎◌, inl, inr}
 use mathlib.Core.List.{List}
-use native.Mathlib.Nat.{le_trans}
 use native.Mathlib.Omega.{arith}
 use borrow.Author.Count.{below_more}
 use lib.Dec.{T, eqb, eqb→eq}
@@ -21,9 +21,9 @@ use Rattle.theory.proofs.Rank.{rival_irreflexive, above_transitive}
 use Rattle.theory.proofs.Shortest.{CountsMost}
 use Rattle.climbs.proofs.ByRank.{above_of_lists}
 use Rattle.climbs.proofs.InLists.{in_lists, ranked, ranked_above, Ranked, rank_of}
-use Rattle.climbs.proofs.StandByRank.{StandByRank, limits_by_rank, period_by_rank}
+use Rattle.climbs.specs.Ranking.{StandByRank}
+use Rattle.climbs.proofs.StandByRank.{limits_by_rank, period_by_rank}
 use Rattle.raises.proofs.RaisedRow.{Counted, once_of_itself, jobs_of_one_before, counts_before, counts_itself}
-use Rattle.fits.specs.Smallest.{IsShorter}
 
 -- the shortest of the first j periods; a million where there are none
 pub data Shortest (periods : List ℕ) (j period : ℕ) : Type 0 where
@@ -31,23 +31,20 @@ pub data Shortest (periods : List ℕ) (j period : ℕ) : Type 0 where
   of_place : (q : ℕ) → q < j → get_or periods q 0 ≡ period → ((p : ℕ) → p < j → period ≤ get_or periods p 0) → Shortest periods j period
 
 -- the shortest with one more
-pub shortest_more : {periods : List ℕ} {j period r : ℕ} → Shortest periods j period → get_or periods j 0 ≤ 1_000_000 → IsShorter period (get_or periods j 0) r → Shortest periods (j + 1) r
-shortest_more {periods} {j} {period} {r} (none_before none million) by_million is-r =
-    of_place j (omega arith) (go is-r.one_of_them) (below_more _ _ (λ p h. absurd (omega arith)) is-r.at_most_second)
+pub shortest_more : {periods : List ℕ} {j period : ℕ} → Shortest periods j period → get_or periods j 0 ≤ 1_000_000 → Shortest periods (j + 1) (min period (get_or periods j 0))
+shortest_more {periods} {j} {period} (none_before none million) by_million =
+    of_place j (omega arith) (omega arith) (below_more _ _ (λ p h. absurd (omega arith)) (omega arith))
+shortest_more {periods} {j} {period} (of_place q before there each) by_million = go (order_cases period (get_or periods j 0))
   where
-    go : (r ≡ period) ⊎ (r ≡ get_or periods j 0) → get_or periods j 0 ≡ r
-    go (inl e) = omega (arith, is-r.at_most_second)
-    go (inr e) = sym e
-shortest_more {periods} {j} {period} {r} (of_place q before there each) by_million is-r = go is-r.one_of_them
-  where
-    each_more : (p : ℕ) → p < j + 1 → r ≤ get_or periods p 0
-    each_more = below_more _ _ (λ p h. le_trans is-r.at_most_first (each p h)) is-r.at_most_second
+    each_more : (p : ℕ) → p < j + 1 → min period (get_or periods j 0) ≤ get_or periods p 0
+    each_more = below_more _ _ (λ p h. omega (arith, each p h)) (omega arith)
 
-    go : (r ≡ period) ⊎ (r ≡ get_or periods j 0) → Shortest periods (j + 1) r
-    go (inl e) = of_place q (omega arith) (omega arith) each_more
-    go (inr e) = of_place j (omega arith) (sym e) each_more
+    go : (period < get_or periods j 0) ⊎ (period ≡ get_or periods j 0) ⊎ (get_or periods j 0 < period) → Shortest periods (j + 1) (min period (get_or periods j 0))
+    go (inl less) = of_place q (omega arith) (omega arith) each_more
+    go (inr (inl e)) = of_place q (omega arith) (omega arith) each_more
+    go (inr (inr more)) = of_place j (omega arith) (omega arith) each_more
 
-module _ {cs ds ts executions periods : List ℕ} (stand : StandByRank cs ds ts executions periods) where
+module _ {cs ds ts executions deadlines periods : List ℕ} (stand : StandByRank cs ds ts executions deadlines periods) where
   -- the rows that the lists are
   abbrev rows : List Row
   rows = rows_of cs ds ts

@@ -1,6 +1,7 @@
 -- The rows judged by rank, from the highest down, each with the row raised that counts most in its load: what holds after j of them, how it begins, goes on,
 -- stops at a miss and ends.
 use mathlib.Core.Path.{◌≡◌, refl, subst}
+use Rattle.std.proofs.Common.{min}
 use Prim.Native.Nat.{ℕ, suc, ◌+◌, ◌≤◌, ◌<◌, zero-le}
 use mathlib.Core.Logic.{◌⊎◌, inl, inr}
 use mathlib.Core.List.{List}
@@ -23,10 +24,11 @@ use Rattle.theory.proofs.Trial.{meets_with_less}
 use Rattle.theory.proofs.Shortest.{CountsMost, MeetsWithMost, core_allowance_by_most}
 use Rattle.demands.specs.Levels.{load_of}
 use Rattle.climbs.proofs.InLists.{in_rows, in_lists, deadline_of, ranked, ranked_in_lists, rank_of}
-use Rattle.climbs.proofs.StandByRank.{StandByRank, Following, following_begins, following_more, limits_by_rank, execution_by_rank, period_by_rank, load_here}
-use Rattle.raises.specs.Raise.{raised_load, RoomBy, LargestRaise}
+use Rattle.climbs.specs.Ranking.{StandByRank}
+use Rattle.climbs.proofs.StandByRank.{Following, following_begins, following_more, limits_by_rank, execution_by_rank, period_by_rank, load_here}
+use Rattle.demands.specs.Loads.{raised_load}
+use Rattle.raises.specs.Raise.{RoomBy, LargestRaise}
 use Rattle.raises.proofs.RaisedRow.{raised_meets_has_room, raised_with_room_meets}
-use Rattle.fits.specs.Smallest.{IsShorter}
 use Rattle.fits.proofs.Counting.{Shortest, none_before, shortest_more, shortest_within, MostCounted, most_counted}
 
 -- a raise with which there is room leaves room for the row's own time
@@ -34,7 +36,7 @@ own_and_raise : (own : ℕ) (cs ts : List ℕ) (period limit a : ℕ) → 1 ≤ 
 own_and_raise own cs ts period limit a positive by =
     omega (arith, by.by_limit, by.room.enough, mul-le-mul_left a (ceil_positive by.time positive by.room.from_one), mul-one a)
 
-module _ {cs ds ts executions periods : List ℕ} (stand : StandByRank cs ds ts executions periods) where
+module _ {cs ds ts executions deadlines periods : List ℕ} (stand : StandByRank cs ds ts executions deadlines periods) where
   -- the rows that the lists are
   abbrev rows : List Row
   rows = rows_of cs ds ts
@@ -132,8 +134,8 @@ module _ {cs ds ts executions periods : List ℕ} (stand : StandByRank cs ds ts 
           go (inr (inr more)) = absurd (omega (arith, largest-raise.up_to))
 
       -- a row that meets is one more
-      pub judging_more : (r : ℕ) → IsShorter period (get_or periods j 0) r → Judging (j + 1) a r R
-      judging_more r is-r = record {
+      pub judging_more : Judging (j + 1) a (min period (get_or periods j 0)) R
+      judging_more = record {
         places = omega arith;
         meet = below_more _ _ so_far.meet (record { response = R; is_response = here.0; by_deadline = here.1 });
         meet_with_most = below_more _ _ (λ p h. meets_with_most_less largest-raise.up_to (in_set p (omega arith)) (so_far.meet_with_most p h))
@@ -143,17 +145,13 @@ module _ {cs ds ts executions periods : List ℕ} (stand : StandByRank cs ds ts 
               meets = raised_with_room_meets stand.within most_here.counted a (rw (deadline_of cs ds ts stand.shaped (at j)) largest-raise.meets);
             });
         attained = attained_here;
-        shortest = shortest_more so_far.shortest (omega (arith, limits_by_rank stand j inside, period_by_rank stand j inside)) is-r;
-        by_period = shorter_fits is-r.one_of_them;
+        shortest = shortest_more so_far.shortest (omega (arith, limits_by_rank stand j inside, period_by_rank stand j inside));
+        by_period = omega (arith, largest-raise.up_to, so_far.by_period, raise_by_deadline, limits_by_rank stand j inside, period_by_rank stand j inside);
         following = following_more stand j inside R responds-here.0 responds-here.1;
       }
         where
           here : IsOutcome rows (at j) (responds R)
           here = climbed_outcome rows (at j) (responds R) (rw (deadline_of cs ds ts stand.shaped (at j), ← load_here stand j inside) responds-here)
-
-          shorter_fits : (r ≡ period) ⊎ (r ≡ get_or periods j 0) → a ≤ r
-          shorter_fits (inl e) = omega (arith, largest-raise.up_to, so_far.by_period)
-          shorter_fits (inr e) = omega (arith, raise_by_deadline, limits_by_rank stand j inside, period_by_rank stand j inside)
 
   -- after all rows each meets, and the allowance is the core's
   pub judging_ends : {j allowance period before : ℕ} → Judging j allowance period before → length cs ≤ j → AllMeet rows × IsCoreAllowance rows allowance
