@@ -61,24 +61,26 @@ fn fit_by_climbs(set: &RankedSet) -> Result<Option<u32>, LeftOff>
     ensures { IsShortFit (rows_in set.now.rows) result }
 {
     let by_rank = set.by_rank();
-    let mut most = Raise {
-        more: 1_000_000,
-        period: 1_000_000,
-    };
+    let mut allowance = 1_000_000;
+    let mut period = 1_000_000;
     // The response time of the row before.
     let mut before = 0;
     for j in 0..by_rank.c.len() {
         let row = climbs::row_at(&by_rank, j);
-        let Some(judged) = judge(before + row.own, &row, &most)? else {
-            return Ok(None);
+        let most = Raise {
+            more: allowance,
+            period,
         };
-        before = judged.response;
-        most = Raise {
-            more: judged.raise,
-            period: most.period.min(by_rank.t[j]),
-        };
+        match judge(before + row.own, &row, &most)? {
+            Some(judged) => {
+                before = judged.response;
+                allowance = judged.raise;
+            }
+            None => return Ok(None),
+        }
+        period = period.min(by_rank.t[j]);
     }
-    Ok(Some(most.more))
+    Ok(Some(allowance))
 }
 
 // Whether a core takes rows, and then its core allowance with them.
