@@ -6,7 +6,7 @@ use native.Mathlib.Omega.{arith}
 use native.Mathlib.Nat.{le-div_iff_mul-le, lt-div-mul-add, div-mul-le_self}
 use Rattle.theory.specs.Response.{ceil}
 use Rattle.demands.specs.Levels.{load_of}
-use Rattle.raises.specs.Raise.{raised_load}
+use Rattle.demands.specs.Loads.{raised_load}
 use Rattle.reasons.specs.Reason.{IsBeyond}
 
 -- at a point, with so much load there without the raise and so many jobs that are counted with it

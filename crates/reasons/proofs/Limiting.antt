@@ -1,6 +1,7 @@
 -- The search for the row that limits the one at place p over the rows by rank, from that row down: what holds after the rows from p to before place j, how it begins, goes on
 -- and ends.
-use mathlib.Core.Path.{◌≡◌, sym, subst}
+use Rattle.std.proofs.Common.{Option, Some, None}
+use mathlib.Core.Path.{◌≡◌, refl, sym, subst}
 use Prim.Native.Nat.{ℕ, suc, ◌+◌, ◌-◌, ◌≤◌, ◌<◌}
 use mathlib.Core.Logic.{◌⊎◌, inl, inr, ⊎_elim}
 use mathlib.Core.List.{List}
@@ -11,6 +12,7 @@ use Rattle.theory.proofs.Tests.{equal_or_not, order_cases}
 use Rattle.raises.proofs.Raised.{raise_mono}
 use Rattle.trials.specs.Trial.{counted_by}
 use Rattle.trials.proofs.Search.{counts_itself_once, counts_by_period}
+use Rattle.reasons.specs.declared.Limit.{Limit}
 use Rattle.reasons.specs.Reason.{LeastWithRoom, Reached, load_with, points_at, PointWith, PointsByRank, IsMost, LimitedAt}
 
 module _ (cs ds ts : List ℕ) (p : ℕ) where
@@ -30,12 +32,23 @@ module _ (cs ds ts : List ℕ) (p : ℕ) where
     pub above_it : smallest ≡ suc most
     pub have_more : (q : ℕ) → p ≤ q → q < j → PointWith cs ds ts p q smallest
 
+  -- what a limiting row so far, or none, says of them
+  abbrev FoundSoFar : ℕ → Option Limit → ℕ → Type 0
+  FoundSoFar smallest (Some limit) j = Found smallest limit.row limit.point j
+  FoundSoFar smallest None j = NotYet smallest j
+
   -- after the rows from place p to before place j
-  pub record Searched (smallest row point j : ℕ) : Type 0 where
+  pub record Searched (smallest : ℕ) (limit : Option Limit) (j : ℕ) : Type 0 where
     pub from : p ≤ j
     pub places : j ≤ length cs
     pub by_deadline : smallest ≤ get_or ds p 0
-    pub found : Found smallest row point j ⊎ NotYet smallest j
+    pub found : FoundSoFar smallest limit j
+
+  -- there is a limiting row
+  pub record LimitFound (found : Option Limit) : Type 0 where
+    pub limit : Limit
+    pub is_found : found ≡ Some limit
+    pub limits : LimitedAt cs ds ts p limit.row limit.point
 
   -- a point with room for more has room for less
   room_for_less : (j a b : ℕ) → a ≤ b → PointWith cs ds ts p j b → PointWith cs ds ts p j a
@@ -47,12 +60,12 @@ module _ (cs ds ts : List ℕ) (p : ℕ) where
 
   module _ (rows : PointsByRank cs ds ts) (inside : p < length cs) where
     -- it begins one above the largest raise in question
-    pub search_begins : {most : ℕ} → IsMost cs ds ts p most → (row point : ℕ) → Searched (most + 1) row point p
-    search_begins {most} is_most row point = record {
+    pub search_begins : {most : ℕ} → IsMost cs ds ts p most → Searched (most + 1) None p
+    search_begins {most} is_most = record {
       from = omega arith;
       places = omega arith;
       by_deadline = omega (arith, is_most.own_distance, rows.runs p inside);
-      found = inr (record { most = most; is_most = is_most; above_it = omega arith; have_more = λ q h l. absurd (omega arith) });
+      found = record { most = most; is_most = is_most; above_it = omega arith; have_more = λ q h l. absurd (omega arith) };
     }
 
     -- no raise in question passes the period for which a row counts it
@@ -63,7 +76,7 @@ module _ (cs ds ts : List ℕ) (p : ℕ) where
         go (inl e) = rw (e, counts_itself_once ts p) (omega (arith, rows.by_period p inside, rows.small.by_million p inside), omega arith, omega arith)
         go (inr d) = rw (counts_by_period ts p j d) (omega (arith, rows.by_period p inside), rows.small.period_positive p inside, rows.small.by_million p inside)
 
-    module _ {smallest row point j : ℕ} (so_far : Searched smallest row point j) (more : j < length cs) {beyond next : ℕ} (reached : Reached (load_with cs ts p j) (points_at ds ts j) smallest beyond next) where
+    module _ {smallest : ℕ} {limit : Option Limit} {j : ℕ} (so_far : Searched smallest limit j) (more : j < length cs) {beyond next : ℕ} (reached : Reached (load_with cs ts p j) (points_at ds ts j) smallest beyond next) where
       -- each row has a point, so something is reached
       pub something_reached : 1 ≤ beyond
       something_reached = go (equal_or_not beyond 0)
@@ -81,15 +94,19 @@ module _ (cs ds ts : List ℕ) (p : ℕ) where
 
       -- the rows before have room for the smallest raise so far
       earlier : (q : ℕ) → p ≤ q → q < j → PointWith cs ds ts p q smallest
-      earlier q h l = ⊎_elim (λ f. f.each_has_room q h l) (λ n. n.have_more q h l) so_far.found
+      earlier q h l = go limit so_far.found
+        where
+          go : (o : Option Limit) → FoundSoFar smallest o j → PointWith cs ds ts p q smallest
+          go (Some limit) f = f.each_has_room q h l
+          go None n = n.have_more q h l
 
       -- the row has no room for it: it limits
-      pub search_lowers : beyond ≤ smallest → Searched (beyond - 1) j next (j + 1)
+      pub search_lowers : beyond ≤ smallest → Searched (beyond - 1) (Some (record { row = j; point = next })) (j + 1)
       search_lowers up_to_lem = record {
         from = omega (arith, so_far.from);
         places = omega arith;
         by_deadline = omega (arith, so_far.by_deadline);
-        found = inl (record {
+        found = record {
           from = so_far.from;
           before = omega arith;
           each_has_room = λ q h l. ⊎_elim
@@ -98,16 +115,16 @@ module _ (cs ds ts : List ℕ) (p : ℕ) where
           above_have_more = λ q h l. room_for_less q (suc (beyond - 1)) smallest (omega (arith, something_reached)) (earlier q h l);
           no_more = λ q. reached.no_room up_to_lem q.point q.among_points (subst (λ (a : ℕ). load_with cs ts p j a q.point ≤ q.point) (sym one_less) q.room);
           least_point = record { among_points = reached.among_points something_reached; room = reached.room (beyond - 1) one_less; least = reached.least up_to_lem (beyond - 1) one_less };
-        });
+        };
       }
 
       -- it has room for it: what was found stays
-      pub search_stays : smallest < beyond → Searched smallest row point (j + 1)
+      pub search_stays : smallest < beyond → Searched smallest limit (j + 1)
       search_stays further = record {
         from = omega (arith, so_far.from);
         places = omega arith;
         by_deadline = so_far.by_deadline;
-        found = ⊎_elim (λ f. inl (still f)) (λ n. inr (not_yet n)) so_far.found;
+        found = go limit so_far.found;
       }
         where
           has_room : PointWith cs ds ts p j smallest
@@ -116,8 +133,8 @@ module _ (cs ds ts : List ℕ) (p : ℕ) where
           one_more : ((q : ℕ) → p ≤ q → q < j → PointWith cs ds ts p q smallest) → (q : ℕ) → p ≤ q → q < j + 1 → PointWith cs ds ts p q smallest
           one_more before q h l = ⊎_elim (λ e. subst (λ (x : ℕ). PointWith cs ds ts p x smallest) (sym e) has_room) (λ d. before q h (omega arith)) (equal_or_not q j)
 
-          still : Found smallest row point j → Found smallest row point (j + 1)
-          still f = record {
+          go : (o : Option Limit) → FoundSoFar smallest o j → FoundSoFar smallest o (j + 1)
+          go (Some limit) f = record {
             from = f.from;
             before = omega (arith, f.before);
             each_has_room = one_more f.each_has_room;
@@ -125,33 +142,36 @@ module _ (cs ds ts : List ℕ) (p : ℕ) where
             no_more = f.no_more;
             least_point = f.least_point;
           }
+          go None n = record { most = n.most; is_most = n.is_most; above_it = n.above_it; have_more = one_more n.have_more }
 
-          not_yet : NotYet smallest j → NotYet smallest (j + 1)
-          not_yet n = record { most = n.most; is_most = n.is_most; above_it = n.above_it; have_more = one_more n.have_more }
-
-    module _ {smallest row point j : ℕ} (done : Searched smallest row point j) where
+    module _ {smallest : ℕ} {limit : Option Limit} {j : ℕ} (done : Searched smallest limit j) where
       -- where the rows from place j on have room for the smallest raise too, the limiting row is found
-      limit_is_found : (NotYet smallest j → ⊥) → ((q : ℕ) → j ≤ q → q < length cs → PointWith cs ds ts p q smallest) → LimitedAt cs ds ts p row point
-      limit_is_found not_first rest = ⊎_elim ends (λ n. absurd (not_first n)) done.found
+      limit_is_found : (NotYet smallest j → ⊥) → ((q : ℕ) → j ≤ q → q < length cs → PointWith cs ds ts p q smallest) → LimitFound limit
+      limit_is_found not_first rest = go limit done.found
         where
-          ends : Found smallest row point j → LimitedAt cs ds ts p row point
-          ends f = record {
-            allowance = smallest;
-            from = f.from;
-            inside = omega (arith, f.before, done.places);
-            each_has_room = λ q h l. ⊎_elim (λ (b : q < j). f.each_has_room q h b) (⊎_elim (λ (e : q ≡ j). rest q (omega arith) l) (λ (b : j < q). rest q (omega arith) l)) (order_cases q j);
-            above_have_more = f.above_have_more;
-            no_more = f.no_more;
-            least_point = f.least_point;
+          go : (o : Option Limit) → FoundSoFar smallest o j → LimitFound o
+          go (Some limit) f = record {
+            limit = limit;
+            is_found = refl;
+            limits = record {
+              allowance = smallest;
+              from = f.from;
+              inside = omega (arith, f.before, done.places);
+              each_has_room = λ q h l. ⊎_elim (λ (b : q < j). f.each_has_room q h b) (⊎_elim (λ (e : q ≡ j). rest q (omega arith) l) (λ (b : j < q). rest q (omega arith) l)) (order_cases q j);
+              above_have_more = f.above_have_more;
+              no_more = f.no_more;
+              least_point = f.least_point;
+            };
           }
+          go None n = absurd (not_first n)
 
       -- after the last row
-      pub search_ends : length cs ≤ j → LimitedAt cs ds ts p row point
+      pub search_ends : length cs ≤ j → LimitFound limit
       search_ends past =
           limit_is_found (λ n. n.is_most.no_larger (λ q h l. subst (PointWith cs ds ts p q) n.above_it (n.have_more q h (omega arith)))) (λ q h l. absurd (omega arith))
 
       -- and where the smallest raise is nothing, for which every row has room
-      pub search_left : smallest ≡ 0 → LimitedAt cs ds ts p row point
+      pub search_left : smallest ≡ 0 → LimitFound limit
       search_left none =
           limit_is_found (λ n. omega (arith, n.above_it))
           (λ q h l. subst (PointWith cs ds ts p q) (sym none) (rows.have_points p q l))

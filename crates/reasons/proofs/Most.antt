@@ -1,4 +1,6 @@
 -- The raises above which none is in question: a row's own distance to its deadline, and its allowance.
+use Rattle.std.proofs.Common.{Result, Ok, Err}
+use Rattle.std.specs.Result.{result_unwrap_or}
 use mathlib.Core.Path.{◌≡◌, ap, ◌∙◌}
 use Prim.Native.Nat.{ℕ, suc, ◌+◌, ◌-◌, ◌*◌, ◌≤◌, ◌<◌}
 use mathlib.Core.List.{List}
@@ -9,7 +11,8 @@ use Rattle.theory.specs.Response.{ceil}
 use Rattle.theory.specs.Lists.{rows_of}
 use Rattle.theory.proofs.Ceil.{ceil_one}
 use Rattle.theory.proofs.Walk.{walk_within, walk_positive}
-use Rattle.trials.specs.Trial.{counted_by, RoomWith, AllowanceAt}
+use Rattle.raises.specs.declared.LeftOff.{LeftOff}
+use Rattle.trials.specs.Trial.{counted_by, RoomWith, AllowanceAt, IsAllowanceAt}
 use Rattle.trials.proofs.Search.{counts_itself_once}
 use Rattle.reasons.specs.Reason.{PointWith, PointsByRank, IsMost}
 
@@ -35,15 +38,20 @@ module _ {cs ds ts : List ℕ} (rows : PointsByRank cs ds ts) (p : ℕ) (inside 
       omega (arith, r.room.enough, once, r.by_limit)
 
   -- its own distance to its deadline
-  pub distance_is_most : IsMost cs ds ts p (get_or ds p 0 - get_or cs p 0)
+  distance_is_most : IsMost cs ds ts p (get_or ds p 0 - get_or cs p 0)
   distance_is_most = record {
     own_distance = omega (arith, rows.by_deadline p inside);
     no_larger = λ all. omega (arith, own_room (suc (get_or ds p 0 - get_or cs p 0)) (room_of_point p (suc (get_or ds p 0 - get_or cs p 0)) inside (all p (omega arith) inside)), rows.by_deadline p inside);
   }
 
   -- its allowance
-  pub allowance_is_most : (a : ℕ) → AllowanceAt cs ds ts p a → IsMost cs ds ts p a
+  allowance_is_most : (a : ℕ) → AllowanceAt cs ds ts p a → IsMost cs ds ts p a
   allowance_is_most a allowed = record {
     own_distance = own_room a (allowed.all_have_room p (omega arith) inside);
     no_larger = λ all. let larger : suc a ≤ a = allowed.largest (suc a) (λ q from h. room_of_point q (suc a) h (all q from h)) in omega arith;
   }
+
+  -- the allowance where the search finds it, and the distance where it does not
+  pub found_is_most : (rounds : ℕ) (found : Result ℕ LeftOff) → IsAllowanceAt cs ds ts p rounds found → IsMost cs ds ts p (result_unwrap_or found (get_or ds p 0 - get_or cs p 0))
+  found_is_most rounds (Ok a) is = allowance_is_most a is
+  found_is_most rounds (Err left_off) is = distance_is_most

@@ -4,7 +4,7 @@ use mathlib.Core.List.{List, Memᴰ}
 use Rattle.theory.specs.Points.{walk}
 use Rattle.theory.specs.Lists.{rows_of}
 use Rattle.demands.specs.Levels.{Small}
-use Rattle.raises.specs.Raise.{raised_load}
+use Rattle.demands.specs.Loads.{raised_load}
 use Rattle.trials.specs.Trial.{counted_by}
 
 -- the points of a walk over rows with these periods, from a limit

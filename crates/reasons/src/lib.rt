@@ -1,19 +1,16 @@
 // Why an allowance is not larger: the row that limits it, and the point at which it does. Document 02, request 1, by points, on the rows by rank.
 #![tactic(auto)]
 
-ghost use Rattle.std.specs.Prelude.{◌≡◌, ℕ, ◌≤◌, ◌<◌, length, get_or, take};
+ghost use Rattle.std.specs.Prelude.{◌≡◌, ◌≤◌, ◌<◌, length, get_or};
 ghost use mathlib.Core.List.{Memᴰ};
-ghost use Rattle.theory.specs.Row.{AllWithin};
-ghost use Rattle.theory.specs.Lists.{Shaped, rows_of};
 ghost use Rattle.theory.specs.Explanation.{LimitedBy};
-ghost use Rattle.demands.specs.Levels.{Small};
-ghost use Rattle.climbs.specs.Ranking.{ranking_by};
-ghost use Rattle.raises.specs.Raise.{raised_load};
-ghost use Rattle.responses.specs.Verdict.{RespondsInTime};
-ghost use Rattle.trials.specs.Trial.{InTimeByRank};
+ghost use Rattle.rows.specs.Values.{rows_in};
+ghost use Rattle.raises.specs.Raise.{load_with};
 ghost use Rattle.reasons.specs.Reason.{walk_from, IsNextPoint, IsBeyond, Reached, PointsByRank, IsMost, LimitedAt};
 
-use raises::Raise;
+use demands::{Raise, RankedRow};
+use responses::Timed;
+use trials::ByRank;
 
 // How far the points of a row's walk reach: one more than a raise that a point has room for, and that point. The largest and the first, unless one was enough before.
 #[derive(Drop)]
@@ -23,19 +20,19 @@ struct Reach {
 }
 
 // A limiting row by its place, and the point at which it limits.
-#[derive(Drop)]
+#[derive(Clone, Copy)]
 pub struct Limit {
     pub row: usize,
     pub point: u32,
 }
 
-// The first point of a walk that is above the last one: level by level the multiple where that is above it, and else the time.
-fn next_point(limit: u32, last: u32, t: &[u32]) -> u32
-    requires { (last < limit) × (length t.now ≤ 24) × ((j : ℕ) → j < length t.now → 1 ≤ get_or t.now j 0) }
-    ensures { IsNextPoint t.now limit last result }
+// The first point of a row's walk that is above the last one: level by level the multiple where that is above it, and else the time.
+fn next_point(row: &RankedRow, last: u32) -> u32
+    requires { last < row.now.limit }
+    ensures { IsNextPoint row.now.t.now row.now.limit last result }
 {
-    let mut time = limit;
-    for m in t.iter().rev() {
+    let mut time = row.limit;
+    for m in row.t.iter().rev() {
         let stop = walks::last_multiple(*m, time);
         if last < stop {
             time = stop;
@@ -44,44 +41,45 @@ fn next_point(limit: u32, last: u32, t: &[u32]) -> u32
     time
 }
 
-// One more than the largest raise that a point has room for, where that is above the one so far.
-fn beyond_at(p: u32, own: u32, c: &[u32], t: &[u32], period: u32, beyond: u32) -> u32
-    requires small { Small c.now t.now }
-    requires le_p { (1 ≤ p) × (p ≤ 1_000_000) × (own ≤ 1_000_000) }
-    requires beyond_le_period { (beyond ≤ period) × (1 ≤ period) × (period ≤ 1_000_000) }
-    ensures { IsBeyond (raised_load own c.now t.now period) p beyond result }
+// One more than the largest raise that a point of a row has room for, where that is above the one so far.
+#[tactic(auto, using(demands::proofs::Levels::raise_small))]
+fn beyond_at(p: u32, row: &RankedRow, so_far: &Raise) -> u32
+    requires { (1 ≤ p) × (p ≤ 1_000_000) }
+    ensures { IsBeyond (load_with row.now so_far.now.period) p so_far.now.more result }
 {
-    let load = own + demands::demand(c, t, p);
-    let m = demands::jobs(p, period);
-    if load + beyond * m <= p {
-        return (p - load) / m + 1;
+    let load = demands::load_at(row, p);
+    let jobs = demands::jobs(p, so_far.period);
+    if load + so_far.more * jobs <= p {
+        return (p - load) / jobs + 1;
     }
-    beyond
+    so_far.more
 }
 
 // How far the points of a row's walk reach, as long as none is known to have room for a raise that is enough: mostly the last one tells that.
-fn reach_of(limit: u32, own: u32, c: &[u32], t: &[u32], period: u32, enough: u32) -> Reach
-    requires small { Small c.now t.now }
-    requires le_limit { (1 ≤ limit) × (limit ≤ 1_000_000) × (own ≤ 1_000_000) }
-    requires enough_le_period { (enough ≤ period) × (1 ≤ period) × (period ≤ 1_000_000) }
-    ensures { Reached (raised_load own c.now t.now period) (walk_from t.now limit) enough result.beyond result.point }
+fn reach_of(row: &RankedRow, enough: &Raise) -> Reach
+    requires { 1 ≤ row.now.limit }
+    ensures { Reached (load_with row.now enough.now.period) (walk_from row.now.t.now row.now.limit) enough.now.more result.beyond result.point }
 {
-    let at_limit = beyond_at(limit, own, c, t, period, enough);
-    if enough < at_limit {
+    let at_limit = beyond_at(row.limit, row, enough);
+    if enough.more < at_limit {
         return Reach {
             beyond: at_limit,
-            point: limit,
+            point: row.limit,
         };
     }
     let mut beyond = 0;
     let mut point = 0;
     let mut last = 0;
-    while last < limit {
-        if enough < beyond {
+    while last < row.limit {
+        if enough.more < beyond {
             break;
         }
-        last = next_point(limit, last, t);
-        let next = beyond_at(last, own, c, t, period, beyond);
+        last = next_point(row, last);
+        let so_far = Raise {
+            more: beyond,
+            period: enough.period,
+        };
+        let next = beyond_at(last, row, &so_far);
         if beyond < next {
             beyond = next;
             point = last;
@@ -92,83 +90,65 @@ fn reach_of(limit: u32, own: u32, c: &[u32], t: &[u32], period: u32, enough: u32
 
 // A raise of the row at place p above which none is in question, among rows by rank: its allowance where short climbs tell it, and else its own distance to its
 // deadline. The nearer it is, the sooner the walks end.
-fn largest_in_question(c: &[u32], d: &[u32], t: &[u32], response: &[u32], p: usize) -> u32
-    requires points_by_rank { PointsByRank c.now d.now t.now × InTimeByRank c.now d.now t.now response.now }
-    requires p_in_bounds { p < length c.now }
-    ensures { IsMost c.now d.now t.now p result }
+fn largest_in_question(by_rank: &ByRank, p: usize) -> u32
+    requires points_by_rank { PointsByRank by_rank.now.c.now by_rank.now.d.now by_rank.now.t.now }
+    requires p_in_bounds { p < length by_rank.now.c.now }
+    ensures { IsMost by_rank.now.c.now by_rank.now.d.now by_rank.now.t.now p result }
 {
-    match trials::allowance_at(c, d, t, response, p, 300) {
-        Raise::Largest(a) => a,
-        Raise::LeftOff => d[p] - c[p],
-    }
+    let distance = by_rank.d[p] - by_rank.c[p];
+    trials::allowance_at(by_rank, p, 300).unwrap_or(distance)
 }
 
 // The row that limits the one at place p, among rows by rank. Only those from p on are touched, and they are asked from the highest down: a row whose points have room for the smallest
 // raise so far is not the reason.
-fn limit_at(c: &[u32], d: &[u32], t: &[u32], response: &[u32], p: usize) -> Limit
-    requires points_by_rank { PointsByRank c.now d.now t.now × InTimeByRank c.now d.now t.now response.now }
-    requires p_in_bounds { p < length c.now }
-    ensures { LimitedAt c.now d.now t.now p result.row result.point }
+fn limit_at(by_rank: &ByRank, p: usize) -> Limit
+    requires points_by_rank { PointsByRank by_rank.now.c.now by_rank.now.d.now by_rank.now.t.now }
+    requires p_in_bounds { p < length by_rank.now.c.now }
+    ensures { LimitedAt by_rank.now.c.now by_rank.now.d.now by_rank.now.t.now p result.row result.point }
 {
-    let mut smallest = largest_in_question(c, d, t, response, p) + 1;
-    let mut row = p;
-    let mut point = 0;
-    let mut next = p;
-    while next < c.len() {
+    let mut smallest = largest_in_question(by_rank, p) + 1;
+    let mut limit = None;
+    for j in p..by_rank.c.len() {
         // No row has less room than for a raise of 0.
         if smallest == 0 {
             break;
         }
-        let j = next;
-        next += 1;
-        let period = trials::counted_by(t, p, j);
-        let reached = reach_of(d[j], c[j], &c[..j], &t[..j], period, smallest);
+        let enough = Raise {
+            more: smallest,
+            period: trials::counted_by(by_rank.t, p, j),
+        };
+        let reached = reach_of(&by_rank.row_at(j), &enough);
         if reached.beyond <= smallest {
             smallest = reached.beyond - 1;
-            row = j;
-            point = reached.point;
+            limit = Some(Limit {
+                row: j,
+                point: reached.point,
+            });
         }
     }
-    Limit { row, point }
+    limit.unwrap()
 }
 
 // The place of a row in an order.
 fn place_of(order: &[usize], i: usize) -> usize
-    requires { (length order.now ≤ 24) × Memᴰ i order.now }
+    requires { Memᴰ i order.now }
     ensures { (result < length order.now) × (get_or order.now result 0 ≡ i) }
 {
     order.iter().position(|k| *k == i).unwrap()
 }
 
 // The row that limits row i of a set that is on time, and the point at which it does.
-pub fn limit_of(
-    c: &[u32],
-    d: &[u32],
-    t: &[u32],
-    order: &[usize; 24],
-    response: &[u32; 24],
-    i: usize,
-) -> Limit
-    requires shaped { Shaped c.now d.now t.now × AllWithin (rows_of c.now d.now t.now) }
-    requires order_value { take (length d.now) order.now ≡ ranking_by d.now }
-    requires by_index { (k : ℕ) → k < length c.now → RespondsInTime (rows_of c.now d.now t.now) response.now k }
-    requires i_in_bounds { i < length c.now }
-    ensures limited_by { LimitedBy (rows_of c.now d.now t.now) i result.row result.point }
-    ensures row_in_bounds { result.row < length c.now }
+pub fn limit_of(timed: &Timed, i: usize) -> Limit
+    requires { i < length timed.now.set.rows.c.now }
+    ensures limited_by { LimitedBy (rows_in timed.now.set.rows) i result.row result.point }
+    ensures row_in_bounds { result.row < length timed.now.set.rows.c.now }
 {
-    let n = c.len();
-    let places: &[usize] = order;
-    let by_rank = &places[..n];
-    let cs = climbs::gather(c, by_rank);
-    let ds = climbs::gather(d, by_rank);
-    let ts = climbs::gather(t, by_rank);
-    let rs = climbs::gather(response, by_rank);
-    let p = place_of(by_rank, i);
-    let limit = limit_at(&cs[..n], &ds[..n], &ts[..n], &rs[..n], p);
-    let place = limit.row;
-    let row = order[place];
+    let response = trials::responses_by_rank(timed);
+    let by_rank = trials::ranked(timed, &response);
+    let places = &timed.set.order[..by_rank.c.len()];
+    let limit = limit_at(&by_rank, place_of(places, i));
     Limit {
-        row,
+        row: places[limit.row],
         point: limit.point,
     }
 }

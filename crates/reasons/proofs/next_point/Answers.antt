@@ -5,8 +5,8 @@ use Rattle.reasons.proofs.next_point.Goals as goal
 
 pub loop-m-init : goal.loop-m-init
 loop-m-init c =
-    let all : c.args.t.now ≡ c.into_iter-m-iterator.result.iter.rest.now = cc in
-    subst (λ (left : List _). Descending c.args.t.now c.args.limit c.args.last left c.args.limit) all (descending_begins c.args.t.now c.args.limit c.args.last c.requires.0)
+    let all : c.args.row.now.t.now ≡ c.into_iter-m-iterator.result.iter.rest.now = cc in
+    subst (λ (left : List _). Descending c.args.row.now.t.now c.args.row.now.limit c.args.last left c.args.row.now.limit) all (descending_begins c.args.row.now.t.now c.args.row.now.limit c.args.last c.requires)
 
 pub loop-m-preserved-then-last-stop : goal.loop-m-preserved-then-last-stop
 loop-m-preserved-then-last-stop c =

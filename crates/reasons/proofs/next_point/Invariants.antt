@@ -3,4 +3,4 @@ use Rattle.reasons.proofs.Next.{Descending}
 use Rattle.reasons.proofs.next_point.Given as goal
 
 abbrev pub invariant-loop-m : goal.invariant-loop-m
-invariant-loop-m l = Descending l.t l.limit l.last l.m-iterator.iter.rest.now l.time
+invariant-loop-m l = Descending l.row.t.now l.row.limit l.last l.m-iterator.iter.rest.now l.time
