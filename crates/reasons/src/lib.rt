@@ -143,10 +143,11 @@ pub fn limit_of(timed: &Timed, i: usize) -> Limit
     ensures limited_by { LimitedBy (rows_in timed.now.set.rows) i result.row result.point }
     ensures row_in_bounds { result.row < length timed.now.set.rows.c.now }
 {
+    let places = &timed.set.order[..timed.set.rows.d.len()];
+    let p = place_of(places, i);
     let response = trials::responses_by_rank(timed);
     let by_rank = trials::ranked(timed, &response);
-    let places = &timed.set.order[..by_rank.c.len()];
-    let limit = limit_at(&by_rank, place_of(places, i));
+    let limit = limit_at(&by_rank, p);
     Limit {
         row: places[limit.row],
         point: limit.point,

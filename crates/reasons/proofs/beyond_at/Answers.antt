@@ -1,5 +1,5 @@
 -- `beyond_at` gives the quotient and one where the point has room for the raise so far.
-use Prim.Native.Nat.{ℕ, ◌+◌, ◌-◌, ◌*◌, ◌≤◌, ◌<◌}
+use Prim.Native.Nat.{◌<◌}
 use native.Mathlib.Omega.{arith}
 use Rattle.theory.proofs.Ceil.{ceil_positive}
 use Rattle.reasons.proofs.Beyond.{beyond_quotient, beyond_as_before}

@@ -14,7 +14,7 @@ pub unwrap-requires : goal.unwrap-requires
 unwrap-requires c =
     let order = c.args.order.now in
     let test : ℕ → Bool = λ k. eqb k c.args.i in
-    let stands = stands_in c.requires.1 in
+    let stands = stands_in c.requires in
     let found : c.position.result ≡ position test order = position_from_yields_List test _ _ _ c.position.ensures.ran (YieldsList-from_slice order cc) (λ x b q k. search (rules, tests)) in
     let before : stands.place < position_or_len test order → test (get_or order stands.place 0) ≡ false = fails_before_first test order stands.place 0 in
     grind (arith, common_steps, before, found, stands.inside, stands.there)
