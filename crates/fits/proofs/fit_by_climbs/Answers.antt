@@ -1,8 +1,7 @@
-use mathlib.Core.Path.{◌≡◌, ◌∙◌}
-use Prim.Native.Nat.{ℕ, ◌≤◌, ◌<◌}
+use Prim.Native.Nat.{◌<◌}
 use native.Mathlib.Omega.{arith}
-use lib.ListN.{length, get_or}
-use Rattle.climbs.proofs.StandByRank.{as_many_by_rank, execution_within, deadline_by_rank}
+use lib.ListN.{length}
+use Rattle.climbs.proofs.StandByRank.{as_many_by_rank, deadline_by_rank}
 use Rattle.climbs.proofs.RowAtRank.{start_of_row}
 use Rattle.fits.proofs.Counting.{shortest_within}
 use Rattle.fits.proofs.Judging.{judging_begins, judging_stops, judging_more, judging_ends}

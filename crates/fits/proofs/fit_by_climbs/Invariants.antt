@@ -1,5 +1,4 @@
 -- `fits::fit_by_climbs` meets its contract. The loop's invariant: the first j rows by rank are judged.
-use Rattle.rows.specs.Values.{rows_in}
 use Rattle.climbs.specs.Placed.{AreByRank}
 use Rattle.fits.proofs.Judging.{Judging}
 use Rattle.fits.proofs.fit_by_climbs.Given as goal
