@@ -46,11 +46,11 @@ fn lean(leap: Leaning, at: u32, c: u32, t: u32) -> Leaning
     requires some_left { ceil at t * c < leap.rest }
     ensures { Leaned at c t leap.rest leap.free result.rest result.free }
 {
-    let m = demands::jobs(at, t);
+    let jobs = demands::jobs(at, t);
     match least_in_question(leap) {
-        Some(least) if least <= u64::from(m) * u64::from(t) => leap,
+        Some(least) if least <= u64::from(jobs) * u64::from(t) => leap,
         _ => Leaning {
-            rest: leap.rest - u64::from(m) * u64::from(c),
+            rest: leap.rest - u64::from(jobs) * u64::from(c),
             free: left_behind(leap.free, c, t),
         },
     }
