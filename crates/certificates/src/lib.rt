@@ -25,15 +25,7 @@ pub fn certify(cores: usize, rows: &Rows) -> Result<Certificate, Refusal>
     let mut allowance = [0u32; 24];
     let mut held = Cores::with_no_rows();
     placing::place_rows(rows, cores, &mut core[..n], &mut held)?;
-    figures::write_figures(
-        rows.c,
-        rows.d,
-        rows.t,
-        &held.rows,
-        &held.counts,
-        &mut response[..n],
-        &mut allowance[..n],
-    );
+    figures::write_figures(rows, &held, &mut response[..n], &mut allowance[..n]);
     Ok(Certificate {
         n,
         core,

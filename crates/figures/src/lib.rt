@@ -11,6 +11,7 @@ ghost use Rattle.figures.specs.Scattered.{scattered};
 ghost use Rattle.figures.specs.Figured.{CoreFigured};
 ghost use Rattle.figures.specs.Placed.{PlacedRows, HasFigures};
 
+use cores::Cores;
 use responses::Timed;
 use rows::Rows;
 
@@ -65,19 +66,12 @@ fn write_at(rows: &Rows, places: &[usize], responses: &mut [u32], allowances: &m
 }
 
 // Writes each placed row's response time and allowance.
-pub fn write_figures(
-    rows: &Rows,
-    held: &[[usize; 24]; 8],
-    counts: &[usize; 8],
-    responses: &mut [u32],
-    allowances: &mut [u32],
-)
-    requires placed_rows { PlacedRows (rows_in rows.now) held.now counts.now }
+pub fn write_figures(rows: &Rows, held: &Cores, responses: &mut [u32], allowances: &mut [u32])
+    requires placed_rows { PlacedRows (rows_in rows.now) held.now.rows held.now.counts }
     requires responses_len { (length responses.old ≡ length rows.now.c.now) × (length allowances.old ≡ length rows.now.c.now) }
-    ensures { (placed : PlacedRows (rows_in rows.now) held.now counts.now) → (i : ℕ) → i < length rows.now.c.now → HasFigures (rows_in rows.now) placed.assignment responses.new allowances.new i }
+    ensures { (placed : PlacedRows (rows_in rows.now) held.now.rows held.now.counts) → (i : ℕ) → i < length rows.now.c.now → HasFigures (rows_in rows.now) placed.assignment responses.new allowances.new i }
 {
     for m in 0..8 {
-        let places = &held[m][..counts[m]];
-        write_at(rows, places, responses, allowances);
+        write_at(rows, held.places(m), responses, allowances);
     }
 }

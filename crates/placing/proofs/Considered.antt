@@ -3,7 +3,7 @@ use mathlib.Core.Path.{◌≡◌, refl, sym, ap, subst, ◌∙◌}
 use Prim.Native.Nat.{ℕ, suc, ◌+◌, ◌<◌}
 use native.Mathlib.Numerals.{add-one}
 use mathlib.Core.List.{List, map}
-use Rattle.std.specs.Prelude.{Option}
+use Rattle.std.specs.Prelude.{Option, Some, None}
 use lib.Dec.{ltb}
 use lib.ListN.{length}
 use Rattle.theory.specs.Row.{Row, row_at}
@@ -16,8 +16,6 @@ use Rattle.placement.specs.Choice.{allowance_fit, joined}
 use Rattle.placement.proofs.Fit.{allowance_fit_is_rule}
 use Rattle.cores.specs.Cores.{HeldWithout, held_places}
 use Rattle.cores.proofs.Gathered.{gathered_joined}
-use Rattle.fits.specs.declared.Fit.{Fit}
-use Rattle.fits.specs.declared.Fit.TheVariants.{Takes, Refuses}
 use Rattle.fits.specs.Fit.{IsFit}
 use Rattle.choices.specs.declared.Candidate.{Candidate}
 use Rattle.choices.specs.Among.{IsChoiceAmong}
@@ -27,7 +25,7 @@ use Rattle.placing.specs.Placed.{table_in}
 
 -- with the next core considered, the choice is among one core more
 pub considered_next :
-    (table : Table) (assignment : List ℕ) (i m : ℕ) (choice next : Option Candidate) (fit : Fit)
+    (table : Table) (assignment : List ℕ) (i m : ℕ) (choice next : Option Candidate) (fit : Option ℕ)
     → m < table.cores
     → IsChoiceAmong allowance_fit table assignment i m choice
     → IsFit (joined table assignment i (suc m)) fit
@@ -37,13 +35,13 @@ considered_next table assignment i m choice next fit on_table among fits is-next
     subst (IsChoiceAmong allowance_fit table assignment i (m + 1)) (sym is-next)
     (subst (λ (n : ℕ). IsChoiceAmong allowance_fit table assignment i n (considered allowance_fit choice n fit)) (sym (add-one m)) (go fit fits))
   where
-    go : (fit : Fit) → IsFit (joined table assignment i (suc m)) fit → IsChoiceAmong allowance_fit table assignment i (suc m) (considered allowance_fit choice (suc m) fit)
-    go (Takes a) fits = among_next_taken allowance_fit table assignment i m allowance_fit_is_rule on_table a fits.0 fits.1 choice among
-    go Refuses fits = among_next_refused allowance_fit table assignment i m choice among fits
+    go : (fit : Option ℕ) → IsFit (joined table assignment i (suc m)) fit → IsChoiceAmong allowance_fit table assignment i (suc m) (considered allowance_fit choice (suc m) fit)
+    go (Some a) fits = among_next_taken allowance_fit table assignment i m allowance_fit_is_rule on_table a fits.0 fits.1 choice among
+    go None fits = among_next_refused allowance_fit table assignment i m choice among fits
 
 -- the rows at the places held for core m + 1, with row i among them, are that core's rows with row i
 pub held_fit :
-    (cores : ℕ) (rows : Rows) (i m : ℕ) (lists : List (List ℕ)) (counts : List ℕ) (fit : Fit)
+    (cores : ℕ) (rows : Rows) (i m : ℕ) (lists : List (List ℕ)) (counts : List ℕ) (fit : Option ℕ)
     → m < 8
     → i < length rows.c.now
     → (without : HeldWithout (length rows.c.now) i lists counts)

@@ -15,23 +15,18 @@ ghost use Rattle.placing.specs.Placed.{table_in, IsPlaced};
 use answers::Refusal;
 use choices::Candidate;
 use cores::Cores;
-use fits::Fit;
 use rows::Rows;
 
-// Whether a core takes the rows at these places.
-fn fit_at(rows: &Rows, places: &[usize]) -> Fit
+// The core allowance of the rows at these places, where a core takes them.
+fn fit_at(rows: &Rows, places: &[usize]) -> Option<u32>
     requires { (1 ≤ length places.now) × (length places.now ≤ 24) × All (λ h. h < length rows.now.c.now) places.now }
     ensures { IsFit (map (row_at (rows_in rows.now)) places.now) result }
 {
-    let n = places.len();
-    let c = climbs::gather(rows.c, places);
-    let d = climbs::gather(rows.d, places);
-    let t = climbs::gather(rows.t, places);
-    fits::fit_of(&c[..n], &d[..n], &t[..n])
+    fits::fit_of(&climbs::rows_at(rows, places).rows())
 }
 
-// Whether a core with the rows at these places takes row i too.
-fn fit_with(rows: &Rows, places: &[usize], i: usize) -> Fit
+// The core allowance of the rows at these places and row i, where a core takes them.
+fn fit_with(rows: &Rows, places: &[usize], i: usize) -> Option<u32>
     requires { (length places.now < 24) × (i < length rows.now.c.now) × All (λ h. h < length rows.now.c.now) places.now }
     ensures { IsFit (map (row_at (rows_in rows.now)) (insert ltb i places.now)) result }
 {
@@ -40,12 +35,12 @@ fn fit_with(rows: &Rows, places: &[usize], i: usize) -> Fit
 }
 
 // The choice with one core more, by whether it takes the row.
-fn choice_after(choice: Option<Candidate>, core: usize, fit: Fit) -> Option<Candidate>
+fn choice_after(choice: Option<Candidate>, core: usize, fit: Option<u32>) -> Option<Candidate>
     ensures { result ≡ considered allowance_fit choice core fit }
 {
     match fit {
-        Fit::Takes(allowance) => choices::choice_with(choice, Candidate { core, allowance }),
-        Fit::Refuses => choice,
+        Some(allowance) => choices::choice_with(choice, Candidate { core, allowance }),
+        None => choice,
     }
 }
 

@@ -10,4 +10,4 @@ abbrev pub invariant-loop-m : goal.invariant-loop-m
 invariant-loop-m l =
     (length l.responses ≡ length l.rows.c.now)
     × (length l.allowances ≡ length l.rows.c.now)
-    × ((placed : PlacedRows (rows_in l.rows) l.held l.counts) → FiguredUpTo (rows_in l.rows) placed.assignment l.responses l.allowances l.m)
+    × ((placed : PlacedRows (rows_in l.rows) l.held.rows l.held.counts) → FiguredUpTo (rows_in l.rows) placed.assignment l.responses l.allowances l.m)
