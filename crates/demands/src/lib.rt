@@ -12,12 +12,13 @@ mod ranked;
 pub use ranked::{Raise, RankedRow};
 
 // How many jobs a row with period m releases before a time.
+#[tactic(auto, using(crate::proofs::Levels::ceil_is_div_ceil))]
 pub fn jobs(time: u32, m: u32) -> u32
     requires le_m { (1 ≤ m) × (m ≤ 1_000_000) }
     requires time_bound { time ≤ 1_000_000 }
     ensures { result ≡ ceil time m }
 {
-    (time + (m - 1)) / m
+    time.div_ceil(m)
 }
 
 // What rows ask for up to a time.
@@ -28,8 +29,8 @@ pub fn demand(c: &[u32], t: &[u32], time: u32) -> u32
 {
     let mut sum = 0;
     // Cut to the length of C, the list of T ends with it, and a round has one end to look for.
-    for (own, period) in c.iter().zip(&t[..c.len()]) {
-        sum += jobs(time, *period) * *own;
+    for (execution, period) in c.iter().zip(&t[..c.len()]) {
+        sum += jobs(time, *period) * *execution;
     }
     sum
 }

@@ -75,6 +75,7 @@ fn visit(p: u32, row: &RankedRow, best: &mut [i64])
 }
 
 // The largest multiple of m not above a time.
+#[tactic(auto, unfolding(theory::specs::Points::last_multiple))]
 pub fn last_multiple(m: u32, time: u32) -> u32
     requires { 1 ≤ m }
     ensures { result ≡ last_multiple m time }

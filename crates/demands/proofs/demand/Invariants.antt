@@ -3,5 +3,5 @@ use lib.ListN.{length}
 use Rattle.demands.proofs.Asked.{AskedUpTo}
 use Rattle.demands.proofs.demand.Given as goal
 
-abbrev pub invariant-loop-own : goal.invariant-loop-own
-invariant-loop-own l = AskedUpTo l.c l.t l.time (length l.yielded) l.sum
+abbrev pub invariant-loop-execution : goal.invariant-loop-execution
+invariant-loop-execution l = AskedUpTo l.c l.t l.time (length l.yielded) l.sum
