@@ -8,3 +8,4 @@ pub mod AtRank
 pub mod After
 pub mod StandByRank
 pub mod RowAtRank
+pub mod FilledByRank

@@ -10,7 +10,7 @@ use lib.ListN.{length, get_or, take, length-take}
 use lib.Seq.{get_or-take}
 use Rattle.theory.specs.Row.{Row, row_at, WithinLimits, AllWithin}
 use Rattle.theory.specs.Gather.{sum}
-use Rattle.theory.specs.Rank.{above, rivals, levels}
+use Rattle.theory.specs.Rank.{above, rivals}
 use Rattle.theory.specs.Response.{ceil, demand, load}
 use Rattle.theory.specs.Lists.{Shaped, rows_of}
 use Rattle.theory.proofs.Ceil.{ceil_mono}
@@ -19,7 +19,7 @@ use Rattle.theory.proofs.Sum.{sum_sort}
 use Rattle.theory.proofs.RowsOf.{rows_of_length, row_of_lists}
 use Rattle.demands.specs.Levels.{demand_of, load_of, Small}
 use Rattle.climbs.specs.Ranking.{ranking_by, rivals_in}
-use Rattle.climbs.proofs.ByRank.{rivals_by_rank, levels_of_lists}
+use Rattle.climbs.proofs.ByRank.{rivals_by_rank}
 
 -- what rows ask for grows with time
 pub demand_of_mono : (cs ts : List ℕ) (s t : ℕ) → s ≤ t → demand_of cs ts s ≤ demand_of cs ts t
@@ -71,16 +71,6 @@ module _ (cs ds ts : List ℕ) (shaped : Shaped cs ds ts) where
           demand_of_entries cs ts (rivals_in (ranking_by ds) ds k) t
           ∙ ap₂ sum (fun_ext (λ h. ap (λ (row : Row). ask row t) (sym (row_at_lem h)))) (rivals_by_rank cs ds ts shaped.as_many_deadlines shaped.as_many_periods k)
           ∙ sum_sort (λ h. ask (row_at rows h) t) (above rows) (rivals rows k)
-
-  -- rows at places are rows of entries
-  rows_at : (hs : List ℕ) → map (row_at rows) hs ≡ rows_of (entries_at cs hs) (entries_at ds hs) (entries_at ts hs)
-  unfolding rows_of
-  rows_at [] = refl
-  rows_at (h ∷ hs) = ap₂ (λ (row : Row) (others : List Row). row ∷ others) (row_at_lem h) (rows_at hs)
-
-  -- the levels of row k's walk are the rows of its rivals' entries
-  pub levels_are_rows : (k : ℕ) → levels rows k ≡ rows_of (rival_entries cs ds k) (rival_entries ds ds k) (rival_entries ts ds k)
-  levels_are_rows k = levels_of_lists cs ds ts shaped.as_many_deadlines shaped.as_many_periods k ∙ rows_at (rivals_in (ranking_by ds) ds k)
 
   module _ (within : AllWithin rows) where
     -- the numbers of a row keep the limits

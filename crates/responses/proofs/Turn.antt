@@ -6,6 +6,7 @@ use native.Mathlib.Omega.{arith}
 use lib.ListN.{length, get_or, set}
 use Rattle.theory.specs.Response.{responds, misses, FirstMiss}
 use Rattle.theory.specs.Climb.{Climbed}
+use Rattle.theory.proofs.Response.{climbed_outcome}
 use Rattle.demands.specs.Loads.{load_in}
 use Rattle.demands.specs.declared.ranked.RankedRow.{RankedRow}
 use Rattle.rows.specs.Values.{rows_in}
@@ -15,13 +16,14 @@ use Rattle.climbs.specs.Placed.{AreByRank, IsRowAt}
 use Rattle.climbs.specs.declared.ranked_set.RankedSet.{RankedSet}
 use Rattle.climbs.proofs.InLists.{order_ranked, order_in_lists}
 use Rattle.climbs.proofs.StandByRank.{Following, as_many_by_rank}
+use Rattle.climbs.proofs.FilledByRank.{filled_more}
 use Rattle.climbs.proofs.RowAtRank.{climb_of_row, following_of_row}
 use Rattle.responses.specs.Verdict.{RespondsInTime}
-use Rattle.responses.proofs.Answering.{Answering, answering_more, answering_stops, answering_ends}
+use Rattle.responses.proofs.Answering.{Answering, answering_stops, answering_ends}
 
 -- the first j rows by rank have their response times, and `before` is that of the last of them
 pub record TurnsTo (ranked : RankedSet) (by_rank : Rows) (response : List ℕ) (before j : ℕ) : Type 0 where
-  pub so_far : Answering ranked.rows.c.now ranked.rows.d.now ranked.rows.t.now ranked.rows.shaped response j
+  pub so_far : Answering ranked.rows response j
   pub following : Following by_rank.c.now by_rank.t.now j before
 
 module _ (ranked : RankedSet) (by_rank : Rows) (stand : AreByRank ranked.rows by_rank) (j : ℕ) (within : j < length by_rank.c.now) {row : RankedRow} (here : IsRowAt by_rank j row) where
@@ -45,8 +47,8 @@ module _ (ranked : RankedSet) (by_rank : Rows) (stand : AreByRank ranked.rows by
       let rows = ranked.rows in record {
         so_far =
             rw place
-            (answering_more rows.c.now rows.d.now rows.t.now rows.shaped response j turns.so_far inside r
-            (climb_of_row rows by_rank stand j inside here (responds r) climbed));
+            (filled_more rows.d.now _ (omega (arith, rows.shaped)) turns.so_far (omega (arith, rows.shaped.as_many_deadlines, inside)) r
+            (climbed_outcome (rows_in rows) _ (responds r) (climb_of_row rows by_rank stand j inside here (responds r) climbed)));
         following = following_of_row rows by_rank stand j inside here climbed.0 climbed.1;
       }
 
@@ -55,7 +57,7 @@ module _ (ranked : RankedSet) (by_rank : Rows) (stand : AreByRank ranked.rows by
   turn_misses {response} turns climbed =
       let rows = ranked.rows in
       rw place
-      (answering_stops rows.c.now rows.d.now rows.t.now rows.shaped response j turns.so_far inside
+      (answering_stops ranked.rows response j turns.so_far inside
       (climb_of_row rows by_rank stand j inside here misses climbed))
 
 -- after all turns each row of the set has its response time
@@ -67,5 +69,4 @@ pub turns_end : (ranked : RankedSet) (by_rank : Rows) → AreByRank ranked.rows 
     → k < length ranked.rows.c.now
     → RespondsInTime (rows_in ranked.rows) response k
 turns_end ranked by_rank stand turns past =
-    let rows = ranked.rows in
-    answering_ends rows.c.now rows.d.now rows.t.now rows.shaped turns.so_far (omega (arith, as_many_by_rank stand))
+    answering_ends ranked.rows turns.so_far (omega (arith, as_many_by_rank stand))
