@@ -88,19 +88,6 @@ fn leap(at: u32, row: &RankedRow, raise: &Raise) -> u32
     within(at, least_in_question(leap), row.limit)
 }
 
-// Where a climb goes on: at its next value, and after every sixteenth round a leap further.
-fn onward(rounds: u32, next: u32, row: &RankedRow, raise: &Raise) -> u32
-    requires runs { 1 ≤ row.now.own }
-    requires start { Start (raised_load_in row.now raise.now) next }
-    ensures { Start (raised_load_in row.now raise.now) result × (next ≤ result) }
-{
-    if rounds.is_multiple_of(16) {
-        leap(next, row, raise)
-    } else {
-        next
-    }
-}
-
 // The climb from a start, with a raise: it ends at the first value that repeats or passes the limit, and leaps after every sixteenth round.
 pub fn climb_with_leaps(start: u32, row: &RankedRow, raise: &Raise) -> Option<u32>
     requires runs { 1 ≤ row.now.own }
@@ -108,16 +95,12 @@ pub fn climb_with_leaps(start: u32, row: &RankedRow, raise: &Raise) -> Option<u3
     ensures { Climbed (raised_load_in row.now raise.now) row.now.limit (outcome_of result) }
 {
     let mut at = start;
-    let mut rounds = 0;
     loop {
-        if row.limit < at {
-            break None;
+        match raises::climb_on(at, row, raise, 16) {
+            Ok(outcome) => break outcome,
+            Err(standing) => {
+                at = leap(standing.at, row, raise);
+            }
         }
-        let next = demands::raised_load_at(row, raise, at);
-        if next == at {
-            break Some(at);
-        }
-        rounds += 1;
-        at = onward(rounds, next, row, raise);
     }
 }

@@ -1,8 +1,10 @@
 -- What a climb of a limited number of rounds must come to, and what a search by such climbs for the largest raise must (document 01, "Allowance").
-use Rattle.std.specs.Prelude.{ℕ, ◌≤◌, ◌<◌, Option, Some, None, Result, Ok, Err}
-use Rattle.theory.specs.Climb.{RoomAt, LeastRoom}
+use Rattle.std.specs.Prelude.{ℕ, ◌+◌, ◌≤◌, ◌<◌, Option, Result, Ok, Err}
+use Rattle.theory.specs.Climb.{RoomAt, Start, Climbed}
+use Rattle.climbs.specs.Climb.{outcome_of}
 use Rattle.demands.specs.declared.ranked.RankedRow.{RankedRow}
 use Rattle.demands.specs.Loads.{raised_load}
+use Rattle.raises.specs.declared.Standing.{Standing}
 use Rattle.raises.specs.declared.LeftOff.{LeftOff}
 
 -- the load of a row with each raise of a period
@@ -15,10 +17,14 @@ pub record RoomBy (next : ℕ → ℕ) (limit : ℕ) : Type 0 where
   pub room : RoomAt next time
   pub by_limit : time ≤ limit
 
--- what a climb of at most so many rounds must come to: a response time, a miss, or neither; each round takes it up, so it is left off only where the rounds are fewer than the limit
+-- what a climb from a start of at most so many rounds must come to: its outcome, or a value from which it may go on, each round having taken it up
+abbrev pub ClimbedOn : (ℕ → ℕ) → ℕ → ℕ → ℕ → Result (Option ℕ) Standing → Type 0
+ClimbedOn next limit start rounds (Ok outcome) = Climbed next limit (outcome_of outcome)
+ClimbedOn next limit start rounds (Err standing) = Start next standing.at × (start + rounds ≤ standing.at) × (standing.at ≤ limit)
+
+-- what it must come to where it may be left off: that happens only where the rounds are fewer than the limit
 abbrev pub ClimbedIn : (ℕ → ℕ) → ℕ → ℕ → Result (Option ℕ) LeftOff → Type 0
-ClimbedIn next limit rounds (Ok (Some R)) = LeastRoom next R × (R ≤ limit)
-ClimbedIn next limit rounds (Ok None) = (S : ℕ) → RoomAt next S → limit < S
+ClimbedIn next limit rounds (Ok outcome) = Climbed next limit (outcome_of outcome)
 ClimbedIn next limit rounds (Err left_off) = rounds < limit
 
 -- r is the largest raise, up to `most`, with which there is room by the limit

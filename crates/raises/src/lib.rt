@@ -4,40 +4,64 @@
 ghost use Rattle.std.specs.Prelude.{◌≤◌};
 ghost use Rattle.theory.specs.Climb.{LeastRoom, Start};
 ghost use Rattle.demands.specs.Loads.{load_in, raised_load_in};
-ghost use Rattle.raises.specs.Raise.{load_with, RoomBy, ClimbedIn, IsRaise};
+ghost use Rattle.raises.specs.Raise.{load_with, RoomBy, ClimbedOn, ClimbedIn, IsRaise};
 
 use demands::{Raise, RankedRow};
 
-// A climb has used up its rounds, and neither responded nor missed.
+// Where a climb stands that has used up its rounds, and neither responded nor missed.
+#[derive(Clone, Copy, Debug, PartialEq, Eq)]
+pub struct Standing {
+    pub at: u32,
+}
+
+// A climb was left off, and what it was for is not known.
 #[derive(Clone, Copy, Debug, PartialEq, Eq)]
 pub struct LeftOff;
 
-// The climb from a start, in at most so many rounds, with a raise: the response time, the miss, or neither yet.
-pub fn climb_raised(
+impl From<Standing> for LeftOff {
+    fn from(_standing: Standing) -> LeftOff {
+        LeftOff
+    }
+}
+
+// The climb from a start, in at most so many rounds, with a raise: the response time, the miss, or where it stands.
+pub fn climb_on(
     start: u32,
     row: &RankedRow,
     raise: &Raise,
     rounds: u32,
-) -> Result<Option<u32>, LeftOff>
-    requires start { Start (raised_load_in row.now raise.now) start }
-    ensures { ClimbedIn (raised_load_in row.now raise.now) row.now.limit rounds result }
+) -> Result<Option<u32>, Standing>
+    requires { Start (raised_load_in row.now raise.now) start }
+    ensures { ClimbedOn (raised_load_in row.now raise.now) row.now.limit start rounds result }
 {
     let mut at = start;
-    let mut left = rounds;
-    loop {
+    for round in 0..rounds {
         if row.limit < at {
             return Ok(None);
         }
-        if left == 0 {
-            return Err(LeftOff);
-        }
-        left -= 1;
         let next = demands::raised_load_at(row, raise, at);
         if next == at {
             return Ok(Some(at));
         }
         at = next;
     }
+    if row.limit < at {
+        return Ok(None);
+    }
+    Err(Standing { at })
+}
+
+// The same climb, which is left off where its rounds do not do.
+pub fn climb_raised(
+    start: u32,
+    row: &RankedRow,
+    raise: &Raise,
+    rounds: u32,
+) -> Result<Option<u32>, LeftOff>
+    requires { Start (raised_load_in row.now raise.now) start }
+    ensures { ClimbedIn (raised_load_in row.now raise.now) row.now.limit rounds result }
+{
+    Ok(climb_on(start, row, raise, rounds)?)
 }
 
 // The largest raise below one that misses: by halves, each climb from the response time with the raise that meets.
