@@ -1,4 +1,3 @@
 -- Laws of the search by trial.
 pub mod Search
 pub mod SetByRank
-pub mod Filling

@@ -4,8 +4,8 @@ use lib.ListN.{length, get_or, take}
 use Rattle.climbs.specs.declared.ranked_set.RankedSet.{RankedSet}
 use Rattle.climbs.proofs.ByRank.{length_ranking}
 use Rattle.climbs.proofs.InLists.{ranked_in_lists}
+use Rattle.climbs.proofs.FilledByRank.{filled_more, filled_all}
 use Rattle.trials.proofs.SetByRank.{allowance_of_rank}
-use Rattle.trials.proofs.Filling.{filling_more, filling_ends}
 use Rattle.trials.proofs.short_allowances.Goals as goal
 
 -- a turn is one of a row
@@ -29,11 +29,11 @@ loop-p-preserved c =
     let timed = c.args.timed.now in
     let inside = turn_inside timed.set c.loop-p-test.true in
     rw timed.set.ranked
-    (filling_more timed.set.rows.shaped c.loop-p.invariant c.in_ok-allowance.field-0 inside
+    (filled_more timed.set.rows.d.now _ (omega (arith, timed.set.rows.shaped)) c.loop-p.invariant (omega (arith, inside, timed.set.rows.shaped.as_many_deadlines)) c.in_ok-allowance.field-0
     (allowance_of_rank c.ranked-by_rank.ensures.stand c.loop-p.p inside timed.in_time c.in_ok-allowance.field-0 c.in_ok-allowance.ensures))
 
 pub returns-clause-allowances : goal.returns-clause-allowances
 returns-clause-allowances c =
     let set = c.args.timed.now.set in
     let ends = rw set.ranked at c.loop-p-test.false in
-    filling_ends set.rows.shaped c.loop-p.invariant (omega (arith, ends, length_ranking set.rows.d.now, set.rows.shaped.as_many_deadlines))
+    λ i h. filled_all set.rows.d.now _ c.loop-p.invariant (omega (arith, ends, length_ranking set.rows.d.now)) i (omega (arith, h, set.rows.shaped.as_many_deadlines))
