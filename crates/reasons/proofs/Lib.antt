@@ -1,6 +1,6 @@
 -- Laws of the search for the limiting row.
 pub mod Next
-pub mod Beyond
+pub mod Quotient
 pub mod Reaching
 pub mod Most
 pub mod Limiting

@@ -1,8 +1,8 @@
 -- The search for the row that limits the one at place p over the rows by rank, from that row down: what holds after the rows from p to before place j, how it begins, goes on
 -- and ends.
-use Rattle.std.proofs.Common.{Option, Some, None}
+use Rattle.std.proofs.Common.{Option, Some, None, IsSome}
 use mathlib.Core.Path.{◌≡◌, refl, sym, subst}
-use Prim.Native.Nat.{ℕ, suc, ◌+◌, ◌-◌, ◌≤◌, ◌<◌}
+use Prim.Native.Nat.{ℕ, suc, ◌+◌, ◌≤◌, ◌<◌}
 use mathlib.Core.Logic.{◌⊎◌, inl, inr, ⊎_elim}
 use mathlib.Core.List.{List}
 use native.Mathlib.Omega.{arith}
@@ -12,8 +12,9 @@ use Rattle.theory.proofs.Tests.{equal_or_not, order_cases}
 use Rattle.raises.proofs.Raised.{raise_mono}
 use Rattle.trials.specs.Trial.{counted_by}
 use Rattle.trials.proofs.Search.{counts_itself_once, counts_by_period}
+use Rattle.reasons.specs.declared.Reach.{Reach}
 use Rattle.reasons.specs.declared.Limit.{Limit}
-use Rattle.reasons.specs.Reason.{LeastWithRoom, Reached, load_with, points_at, PointWith, PointsByRank, IsMost, LimitedAt}
+use Rattle.reasons.specs.Reason.{LeastWithRoom, ReachedAt, Reached, load_with, points_at, PointWith, PointsByRank, IsMost, LimitedAt}
 
 module _ (cs ds ts : List ℕ) (p : ℕ) where
   -- of the rows from place p to before place j, one limits the row at place p: each has room for the smallest raise, those before it for more, and it for no more
@@ -76,21 +77,15 @@ module _ (cs ds ts : List ℕ) (p : ℕ) where
         go (inl e) = rw (e, counts_itself_once ts p) (omega (arith, rows.by_period p inside, rows.small.by_million p inside), omega arith, omega arith)
         go (inr d) = rw (counts_by_period ts p j d) (omega (arith, rows.by_period p inside), rows.small.period_positive p inside, rows.small.by_million p inside)
 
-    module _ {smallest : ℕ} {limit : Option Limit} {j : ℕ} (so_far : Searched smallest limit j) (more : j < length cs) {beyond next : ℕ} (reached : Reached (load_with cs ts p j) (points_at ds ts j) smallest beyond next) where
-      -- each row has a point, so something is reached
-      pub something_reached : 1 ≤ beyond
-      something_reached = go (equal_or_not beyond 0)
-        where
-          go : (beyond ≡ 0) ⊎ (beyond ≡ 0 → ⊥) → 1 ≤ beyond
-          go (inl none) = let q = rows.have_points p j more in absurd (reached.no_room (omega arith) q.point q.among_points (subst (λ (a : ℕ). load_with cs ts p j a q.point ≤ q.point) (sym none) q.room))
-          go (inr some) = omega arith
+    -- each row has a point, so something is reached
+    pub something_reached : (smallest j : ℕ) → j < length cs → (reach : Option Reach) → Reached (load_with cs ts p j) (points_at ds ts j) smallest reach → IsSome reach
+    something_reached smallest j more (Some reach) reached = refl
+    something_reached smallest j more None none = let q = rows.have_points p j more in absurd (none q.point q.among_points q.room)
 
-      one_less : beyond ≡ suc (beyond - 1)
-      one_less = omega (arith, something_reached)
-
-      -- a point has room for one less than is reached
-      at_beyond : PointWith cs ds ts p j (beyond - 1)
-      at_beyond = record { point = next; among_points = reached.among_points something_reached; room = reached.room (beyond - 1) one_less }
+    module _ {smallest : ℕ} {limit : Option Limit} {j : ℕ} (so_far : Searched smallest limit j) (more : j < length cs) {raise point : ℕ} (reached : ReachedAt (load_with cs ts p j) (points_at ds ts j) smallest raise point) where
+      -- a point has room for what is reached
+      at_reach : PointWith cs ds ts p j raise
+      at_reach = record { point = point; among_points = reached.among_points; room = reached.room }
 
       -- the rows before have room for the smallest raise so far
       earlier : (q : ℕ) → p ≤ q → q < j → PointWith cs ds ts p q smallest
@@ -101,8 +96,8 @@ module _ (cs ds ts : List ℕ) (p : ℕ) where
           go None n = n.have_more q h l
 
       -- the row has no room for it: it limits
-      pub search_lowers : beyond ≤ smallest → Searched (beyond - 1) (Some (record { row = j; point = next })) (j + 1)
-      search_lowers up_to_lem = record {
+      pub search_lowers : raise < smallest → Searched raise (Some (record { row = j; point = point })) (j + 1)
+      search_lowers below = record {
         from = omega (arith, so_far.from);
         places = omega arith;
         by_deadline = omega (arith, so_far.by_deadline);
@@ -110,16 +105,16 @@ module _ (cs ds ts : List ℕ) (p : ℕ) where
           from = so_far.from;
           before = omega arith;
           each_has_room = λ q h l. ⊎_elim
-              (λ e. subst (λ (x : ℕ). PointWith cs ds ts p x (beyond - 1)) (sym e) at_beyond)
-              (λ d. room_for_less q (beyond - 1) smallest (omega arith) (earlier q h (omega arith))) (equal_or_not q j);
-          above_have_more = λ q h l. room_for_less q (suc (beyond - 1)) smallest (omega (arith, something_reached)) (earlier q h l);
-          no_more = λ q. reached.no_room up_to_lem q.point q.among_points (subst (λ (a : ℕ). load_with cs ts p j a q.point ≤ q.point) (sym one_less) q.room);
-          least_point = record { among_points = reached.among_points something_reached; room = reached.room (beyond - 1) one_less; least = reached.least up_to_lem (beyond - 1) one_less };
+              (λ e. subst (λ (x : ℕ). PointWith cs ds ts p x raise) (sym e) at_reach)
+              (λ d. room_for_less q raise smallest (omega arith) (earlier q h (omega arith))) (equal_or_not q j);
+          above_have_more = λ q h l. room_for_less q (suc raise) smallest (omega arith) (earlier q h l);
+          no_more = λ q. reached.no_more below q.point q.among_points q.room;
+          least_point = record { among_points = reached.among_points; room = reached.room; least = reached.least below };
         };
       }
 
       -- it has room for it: what was found stays
-      pub search_stays : smallest < beyond → Searched smallest limit (j + 1)
+      pub search_stays : smallest ≤ raise → Searched smallest limit (j + 1)
       search_stays further = record {
         from = omega (arith, so_far.from);
         places = omega arith;
@@ -128,7 +123,7 @@ module _ (cs ds ts : List ℕ) (p : ℕ) where
       }
         where
           has_room : PointWith cs ds ts p j smallest
-          has_room = room_for_less j smallest (beyond - 1) (omega arith) at_beyond
+          has_room = room_for_less j smallest raise further at_reach
 
           one_more : ((q : ℕ) → p ≤ q → q < j → PointWith cs ds ts p q smallest) → (q : ℕ) → p ≤ q → q < j + 1 → PointWith cs ds ts p q smallest
           one_more before q h l = ⊎_elim (λ e. subst (λ (x : ℕ). PointWith cs ds ts p x smallest) (sym e) has_room) (λ d. before q h (omega arith)) (equal_or_not q j)

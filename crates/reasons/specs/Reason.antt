@@ -1,11 +1,12 @@
 -- The row that limits another and the point at which it does (document 02, request 1), by points, on lists of C, D and T by rank.
-use Rattle.std.specs.Prelude.{◌≡◌, ℕ, suc, ◌+◌, ◌≤◌, ◌<◌, length, get_or, take}
+use Rattle.std.specs.Prelude.{◌≡◌, ℕ, suc, ◌+◌, ◌≤◌, ◌<◌, length, get_or, take, Option, Some, None}
 use mathlib.Core.List.{List, Memᴰ}
 use Rattle.theory.specs.Points.{walk}
 use Rattle.theory.specs.Lists.{rows_of}
 use Rattle.demands.specs.Levels.{Small}
 use Rattle.demands.specs.Loads.{raised_load}
 use Rattle.trials.specs.Trial.{counted_by}
+use Rattle.reasons.specs.declared.Reach.{Reach}
 
 -- the points of a walk over rows with these periods, from a limit
 abbrev pub walk_from : List ℕ → ℕ → List ℕ
@@ -17,11 +18,17 @@ pub record IsNextPoint (ts : List ℕ) (limit last p : ℕ) : Type 0 where
   pub above_last : last < p
   pub least : (q : ℕ) → Memᴰ q (walk_from ts limit) → last < q → p ≤ q
 
--- after point p too, nothing from `after` on has room there; and where it went on from `before`, one less has
-pub record IsBeyond (load : ℕ → ℕ → ℕ) (p before after : ℕ) : Type 0 where
-  pub onward : before ≤ after
-  pub no_room : load after p ≤ p → ⊥
-  pub room_for_less : (a : ℕ) → after ≡ suc a → before < after → load a p ≤ p
+-- a is the largest raise for which point p has room, and at least another
+pub record LargestAt (load : ℕ → ℕ → ℕ) (p least a : ℕ) : Type 0 where
+  pub at_least : least ≤ a
+  pub by_point : a ≤ p
+  pub room : load a p ≤ p
+  pub no_more : load (suc a) p ≤ p → ⊥
+
+-- the largest raise for which point p has room, or that it has none for the least one
+abbrev pub IsLargestAt : (ℕ → ℕ → ℕ) → ℕ → ℕ → Option ℕ → Type 0
+IsLargestAt load p least (Some a) = LargestAt load p least a
+IsLargestAt load p least None = load least p ≤ p → ⊥
 
 -- p is the least of some points at which a load fits
 pub record LeastWithRoom (load : ℕ → ℕ) (points : List ℕ) (p : ℕ) : Type 0 where
@@ -29,13 +36,17 @@ pub record LeastWithRoom (load : ℕ → ℕ) (points : List ℕ) (p : ℕ) : Ty
   pub room : load p ≤ p
   pub least : (q : ℕ) → Memᴰ q points → load q ≤ q → p ≤ q
 
--- how far points reach: `point` has room for one less than `beyond`; and unless some is known to have room for a raise that is enough, none has room for `beyond`, and `point` is the
--- least with room for one less
-pub record Reached (load : ℕ → ℕ → ℕ) (points : List ℕ) (enough beyond point : ℕ) : Type 0 where
-  pub among_points : 1 ≤ beyond → Memᴰ point points
-  pub room : (a : ℕ) → beyond ≡ suc a → load a point ≤ point
-  pub no_room : beyond ≤ enough → (q : ℕ) → Memᴰ q points → load beyond q ≤ q → ⊥
-  pub least : beyond ≤ enough → (a : ℕ) → beyond ≡ suc a → (q : ℕ) → Memᴰ q points → load a q ≤ q → point ≤ q
+-- a point has room for a raise; and unless that is known to be enough, none has room for more, and the point is the least with room for it
+pub record ReachedAt (load : ℕ → ℕ → ℕ) (points : List ℕ) (enough raise point : ℕ) : Type 0 where
+  pub among_points : Memᴰ point points
+  pub room : load raise point ≤ point
+  pub no_more : raise < enough → (q : ℕ) → Memᴰ q points → load (suc raise) q ≤ q → ⊥
+  pub least : raise < enough → (q : ℕ) → Memᴰ q points → load raise q ≤ q → point ≤ q
+
+-- how far points reach: to a raise at a point, or none has room for a raise of 0
+abbrev pub Reached : (ℕ → ℕ → ℕ) → List ℕ → ℕ → Option Reach → Type 0
+Reached load points enough (Some reach) = ReachedAt load points enough reach.raise reach.point
+Reached load points enough None = (q : ℕ) → Memᴰ q points → load 0 q ≤ q → ⊥
 
 -- the load of the row at place j with a more in the row at place p
 abbrev pub load_with : List ℕ → List ℕ → ℕ → ℕ → ℕ → ℕ → ℕ

@@ -6,16 +6,16 @@ ghost use mathlib.Core.List.{Memᴰ};
 ghost use Rattle.theory.specs.Explanation.{LimitedBy};
 ghost use Rattle.rows.specs.Values.{rows_in};
 ghost use Rattle.raises.specs.Raise.{load_with};
-ghost use Rattle.reasons.specs.Reason.{walk_from, IsNextPoint, IsBeyond, Reached, PointsByRank, IsMost, LimitedAt};
+ghost use Rattle.reasons.specs.Reason.{walk_from, IsNextPoint, IsLargestAt, Reached, PointsByRank, IsMost, LimitedAt};
 
 use demands::{Raise, RankedRow};
 use responses::Timed;
 use trials::ByRank;
 
-// How far the points of a row's walk reach: one more than a raise that a point has room for, and that point. The largest and the first, unless one was enough before.
-#[derive(Drop)]
+// How far the points of a row's walk reach: the largest raise that one has room for, unless one was enough before, and the first that has.
+#[derive(Clone, Copy)]
 struct Reach {
-    beyond: u32,
+    raise: u32,
     point: u32,
 }
 
@@ -41,51 +41,45 @@ fn next_point(row: &RankedRow, last: u32) -> u32
     time
 }
 
-// One more than the largest raise that a point of a row has room for, where that is above the one so far.
+// The largest raise that a point of a row has room for, where it has room for the least one.
 #[tactic(auto, using(demands::proofs::Levels::raise_small))]
-fn beyond_at(p: u32, row: &RankedRow, so_far: &Raise) -> u32
+fn largest_at(p: u32, row: &RankedRow, least: &Raise) -> Option<u32>
     requires { (1 ≤ p) × (p ≤ 1_000_000) }
-    ensures { IsBeyond (load_with row.now so_far.now.period) p so_far.now.more result }
+    ensures { IsLargestAt (load_with row.now least.now.period) p least.now.more result }
 {
     let load = demands::load_at(row, p);
-    let jobs = demands::jobs(p, so_far.period);
-    if load + so_far.more * jobs <= p {
-        return (p - load) / jobs + 1;
+    let jobs = demands::jobs(p, least.period);
+    if load + least.more * jobs <= p {
+        return Some((p - load) / jobs);
     }
-    so_far.more
+    None
 }
 
 // How far the points of a row's walk reach, as long as none is known to have room for a raise that is enough: mostly the last one tells that.
-fn reach_of(row: &RankedRow, enough: &Raise) -> Reach
+fn reach_of(row: &RankedRow, enough: &Raise) -> Option<Reach>
     requires { 1 ≤ row.now.limit }
-    ensures { Reached (load_with row.now enough.now.period) (walk_from row.now.t.now row.now.limit) enough.now.more result.beyond result.point }
+    ensures { Reached (load_with row.now enough.now.period) (walk_from row.now.t.now row.now.limit) enough.now.more result }
 {
-    let at_limit = beyond_at(row.limit, row, enough);
-    if enough.more < at_limit {
-        return Reach {
-            beyond: at_limit,
-            point: row.limit,
-        };
+    let point = row.limit;
+    if let Some(raise) = largest_at(point, row, enough) {
+        return Some(Reach { raise, point });
     }
-    let mut beyond = 0;
+    let mut reach = None;
+    // The least raise that no point so far has room for.
+    let mut more = 0;
     let mut point = 0;
-    let mut last = 0;
-    while last < row.limit {
-        if enough.more < beyond {
-            break;
-        }
-        last = next_point(row, last);
-        let so_far = Raise {
-            more: beyond,
+    while point < row.limit && more <= enough.more {
+        point = next_point(row, point);
+        let least = Raise {
+            more,
             period: enough.period,
         };
-        let next = beyond_at(last, row, &so_far);
-        if beyond < next {
-            beyond = next;
-            point = last;
+        if let Some(raise) = largest_at(point, row, &least) {
+            reach = Some(Reach { raise, point });
+            more = raise + 1;
         }
     }
-    Reach { beyond, point }
+    reach
 }
 
 // A raise of the row at place p above which none is in question, among rows by rank: its allowance where short climbs tell it, and else its own distance to its
@@ -117,12 +111,12 @@ fn limit_at(by_rank: &ByRank, p: usize) -> Limit
             more: smallest,
             period: trials::counted_by(by_rank.t, p, j),
         };
-        let reached = reach_of(&by_rank.row_at(j), &enough);
-        if reached.beyond <= smallest {
-            smallest = reached.beyond - 1;
+        let reach = reach_of(&by_rank.row_at(j), &enough).unwrap();
+        if reach.raise < smallest {
+            smallest = reach.raise;
             limit = Some(Limit {
                 row: j,
-                point: reached.point,
+                point: reach.point,
             });
         }
     }

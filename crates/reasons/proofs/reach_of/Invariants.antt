@@ -5,8 +5,8 @@ use Rattle.reasons.specs.Reason.{walk_from}
 use Rattle.reasons.proofs.Reaching.{ReachedBy}
 use Rattle.reasons.proofs.reach_of.Given as goal
 
-abbrev pub invariant-loop-last : goal.invariant-loop-last
-invariant-loop-last l = ReachedBy (load_with l.row l.enough.period) (walk_from l.row.t.now l.row.limit) l.last l.beyond l.point
+abbrev pub invariant-loop-point : goal.invariant-loop-point
+invariant-loop-point l = ReachedBy (load_with l.row l.enough.period) (walk_from l.row.t.now l.row.limit) l.point l.more l.reach
 
-abbrev pub decreases-loop-last : goal.decreases-loop-last
-decreases-loop-last l = l.row.limit - l.last
+abbrev pub decreases-loop-point : goal.decreases-loop-point
+decreases-loop-point l = l.row.limit - l.point
