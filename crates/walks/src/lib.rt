@@ -84,6 +84,7 @@ pub fn last_multiple(m: u32, time: u32) -> u32
 }
 
 // Visits the points of the walk at a level from a time that are above the last one visited, and gives the last one visited then.
+#[tactic(auto, using(theory::proofs::Ceil::multiple_below))]
 pub fn walk_on(level: usize, time: u32, last: u32, row: &RankedRow, best: &mut [i64]) -> u32
     requires level_in_bounds { level ≤ length row.now.c.now }
     requires le_time { (1 ≤ time) × (time ≤ 1_000_000) }

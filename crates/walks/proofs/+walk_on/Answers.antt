@@ -22,12 +22,6 @@ returns-then-stop-eq0 t c =
       time_lifted _ _ _ _ _ _ c.args.row.now.small.as_many (a.level - 1) (omega arith) multiple.result multiple.ensures c.if-stop-eq0.true a.best.now c.walk_on.new.best c.walk_on.ensures.1,
     )
 
-pub walk_on-reached-requires : goal.walk_on-reached-requires
-walk_on-reached-requires t c =
-    let a = c.args in
-    let by_time : c.last_multiple-stop.result ≤ a.time = omega (arith, c.last_multiple-stop.ensures, multiple_below (get_or a.row.now.t.now (a.level - 1) 0) a.time) in
-    (omega arith, (omega arith, ((omega (arith, c.if-stop-eq0.false), omega arith), (omega arith, c.requires.all_in_range))))
-
 pub walk_on-requires-2 : goal.walk_on-requires-2
 walk_on-requires-2 t c =
     let a = c.args in
