@@ -20,9 +20,6 @@ module _ (ds : List ℕ) (Right : ℕ → ℕ → Type 0) where
     pub long : length numbers ≡ 24
     pub right : (p : ℕ) → p < j → Right (at p) (get_or numbers (at p) 0)
 
-  pub filled_none : (numbers : List ℕ) → length numbers ≡ 24 → FilledByRank numbers 0
-  filled_none numbers long = record { long = long; right = λ p h. absurd (omega arith) }
-
   -- one more
   pub filled_more : {numbers : List ℕ} {j : ℕ} → length ds ≤ 24 → FilledByRank numbers j → j < length ds
       → (number : ℕ)
