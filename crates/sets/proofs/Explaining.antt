@@ -17,7 +17,7 @@ use Rattle.rows.specs.Values.{rows_in}
 use Rattle.responses.proofs.Meeting.{in_time_meets}
 use Rattle.refusals.specs.Checked.{Checked}
 use Rattle.refusals.specs.Checked as checks
-use Rattle.sets.specs.declared.responding.Timed.{Timed}
+use Rattle.responses.specs.declared.timed.Timed.{Timed}
 use Rattle.sets.specs.Stages.{IsTimed}
 use Rattle.sets.specs.Stages as stage
 use Rattle.sets.proofs.Stages.{Passed, timed_same, as_lists, lists_in_time}
@@ -43,9 +43,9 @@ module _ {cs ds ts : List ℕ} {row : ℕ} where
       miss_unexplained (stage.row_misses k first) = promise.row_misses (row - 1) k passed.shaped passed.within its_place up_to_last (rw (← passed.same_rows) first)
 
       -- every row meets, and one limits
-      pub limit_explained : {timed : Timed} {k p number : ℕ} → IsTimed rows (Ok timed) → LimitedBy (rows_in timed.rows) (row - 1) k p → number ≡ suc k → Explained cs ds ts row (returned 0 0) number p
+      pub limit_explained : {timed : Timed} {k p number : ℕ} → IsTimed rows (Ok timed) → LimitedBy (rows_in timed.set.rows) (row - 1) k p → number ≡ suc k → Explained cs ds ts row (returned 0 0) number p
       limit_explained {timed} {k} {p} timely limited its_number =
-          let same : timed.rows ≡ rows = timed_same timely in
+          let same : timed.set.rows ≡ rows = timed_same timely in
           rw its_number
           (promise.limited (row - 1) k p passed.shaped passed.within its_place up_to_last
           (λ h inside. in_time_meets (lists_in_time passed timed same h inside))

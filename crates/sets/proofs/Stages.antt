@@ -20,7 +20,7 @@ use Rattle.responses.specs.Verdict.{RespondsInTime}
 use Rattle.responses.proofs.Meeting.{in_time_meets}
 use Rattle.refusals.specs.Checked.{Checked}
 use Rattle.refusals.specs.Checked as checks
-use Rattle.sets.specs.declared.responding.Timed.{Timed}
+use Rattle.responses.specs.declared.timed.Timed.{Timed}
 use Rattle.sets.specs.Stages.{IsTimed}
 use Rattle.sets.specs.Stages as stage
 
@@ -53,15 +53,15 @@ checks_pass (checks.passed rows c d t p q) = record {
   allowances_fit = q;
 }
 
-pub timed_same : {rows : Rows} {timed : Timed} → IsTimed rows (Ok timed) → timed.rows ≡ rows
+pub timed_same : {rows : Rows} {timed : Timed} → IsTimed rows (Ok timed) → timed.set.rows ≡ rows
 timed_same (stage.rows_in_time timed same) = same
 
 -- the rows that responded are the rows that passed
-module _ {cs ds ts : List ℕ} {responses allowances : ℕ} {rows : Rows} (passed : Passed cs ds ts responses allowances rows) (timed : Timed) (same : timed.rows ≡ rows) where
-  pub as_lists : rows_in timed.rows ≡ rows_of cs ds ts
+module _ {cs ds ts : List ℕ} {responses allowances : ℕ} {rows : Rows} (passed : Passed cs ds ts responses allowances rows) (timed : Timed) (same : timed.set.rows ≡ rows) where
+  pub as_lists : rows_in timed.set.rows ≡ rows_of cs ds ts
   as_lists = ap rows_in same ∙ passed.same_rows
 
-  pub as_many : length timed.rows.c.now ≡ length cs
+  pub as_many : length timed.set.rows.c.now ≡ length cs
   as_many = ap (λ (held : Rows). length held.c.now) same ∙ passed.same_length
 
   -- and every row of the lists responds in time
@@ -85,10 +85,10 @@ module _ (Allowance : List Row → ℕ → ℕ → Type 0) {cs ds ts responses a
     -- with an allowance for each row the call is accepted
     pub found_answered : {timed : Timed} (found : List ℕ) → IsTimed rows (Ok timed)
         → length found ≡ 24
-        → ((i : ℕ) → i < length timed.rows.c.now → Allowance (rows_in timed.rows) i (get_or found i 0))
+        → ((i : ℕ) → i < length timed.set.rows.c.now → Allowance (rows_in timed.set.rows) i (get_or found i 0))
         → Answered Allowance cs ds ts responses allowances (returned 0 0) (filled (take (length cs) timed.response) responses) (filled (take (length cs) found) allowances)
     found_answered {timed} found timely long each =
-        let same : timed.rows ≡ rows = timed_same timely in
+        let same : timed.set.rows ≡ rows = timed_same timely in
         let in_time = lists_in_time passed timed same in
         lists.accepted (take (length cs) timed.response) (take (length cs) found) passed.shaped passed.within passed.responses_fit passed.allowances_fit
         (λ k inside. in_time_meets (in_time k inside))

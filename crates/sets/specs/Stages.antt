@@ -5,13 +5,13 @@ use Rattle.answers.specs.declared.Refusal.TheVariants.{RowMisses}
 use Rattle.theory.specs.Response.{FirstMiss}
 use Rattle.rows.specs.declared.Rows.{Rows}
 use Rattle.rows.specs.Values.{rows_in}
-use Rattle.sets.specs.declared.responding.Timed.{Timed}
+use Rattle.responses.specs.declared.timed.Timed.{Timed}
 use Rattle.sets.specs.declared.Explanation.{Explanation}
 
 -- after the response times of rows that passed the checks
 pub data IsTimed (rows : Rows) : Result Timed Refusal → Type 0 where
   row_misses : (k : ℕ) → FirstMiss (rows_in rows) k → IsTimed rows (Err (RowMisses (suc k)))
-  rows_in_time : (timed : Timed) → timed.rows ≡ rows → IsTimed rows (Ok timed)
+  rows_in_time : (timed : Timed) → timed.set.rows ≡ rows → IsTimed rows (Ok timed)
 
 -- the number of the limiting row, and the point; with a refusal both are 0
 abbrev pub limiting_of : Result Explanation Refusal → ℕ

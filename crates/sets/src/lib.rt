@@ -7,17 +7,13 @@ ghost use Rattle.theory.specs.Row.{Row};
 ghost use Rattle.theory.specs.Allowance.{IsAllowance};
 ghost use Rattle.theory.specs.Points.{IsPointAllowance};
 ghost use Rattle.theory.specs.Lists.{Answered, SetAnswered, PointAnswered, filled};
-ghost use Rattle.theory.specs.Explanation.{LimitedBy, Explained};
+ghost use Rattle.theory.specs.Explanation.{Explained};
 ghost use Rattle.rows.specs.Values.{rows_in};
 ghost use Rattle.answers.specs.Answer.{returned_by};
 ghost use Rattle.sets.specs.Stages.{IsTimed, limiting_of, point_of};
 
-mod responding;
-
 use answers::{Answer, Refusal};
-use reasons::Limit;
-pub use responding::Timed;
-use responses::Verdict;
+use responses::Timed;
 use rows::Rows;
 
 // A way to find the allowances of a set that is on time, and what it means by an allowance.
@@ -26,7 +22,7 @@ pub trait FindAllowances {
 
     // The allowance of each row at its place.
     fn find(timed: &Timed) -> [u32; 24]
-        ensures each { (i : ℕ) → i < length timed.now.rows.c.now → allowance (rows_in timed.now.rows) i (get_or result i 0) }
+        ensures each { (i : ℕ) → i < length timed.now.set.rows.c.now → allowance (rows_in timed.now.set.rows) i (get_or result i 0) }
         ensures long { length result ≡ 24 };
 }
 
@@ -37,8 +33,7 @@ impl FindAllowances for ByTrial {
     ghost allowance = { IsAllowance };
 
     fn find(timed: &Timed) -> [u32; 24] {
-        let rows = timed.rows;
-        trials::trial_allowances(rows.c, rows.d, rows.t, &timed.order, &timed.response)
+        trials::trial_allowances(timed)
     }
 }
 
@@ -49,8 +44,7 @@ impl FindAllowances for ByPoints {
     ghost allowance = { λ rows i a. IsPointAllowance rows i (pos a) };
 
     fn find(timed: &Timed) -> [u32; 24] {
-        let rows = timed.rows;
-        points::allowances_by_points(rows.c, rows.d, rows.t, &timed.order)
+        points::allowances_by_points(&timed.set)
     }
 }
 
@@ -66,16 +60,9 @@ fn fill(list: &mut [u32], numbers: &[u32])
 fn respond<'a>(rows: &Rows<'a>) -> Result<Timed<'a>, Refusal>
     ensures { IsTimed rows.now result }
 {
-    let order = climbs::ranking(rows.d);
-    let found = responses::responses_of(rows.c, rows.d, rows.t, &order);
-    let response = found.response;
-    match found.verdict {
-        Verdict::OnTime => Ok(Timed {
-            rows: *rows,
-            order,
-            response,
-        }),
-        Verdict::Late(k) => Err(Refusal::RowMisses(k as u32 + 1)),
+    match responses::responses_of(climbs::ranked(*rows)) {
+        Ok(timed) => Ok(timed),
+        Err(miss) => Err(Refusal::RowMisses(miss.row as u32 + 1)),
     }
 }
 
@@ -131,16 +118,6 @@ pub struct Explanation {
     pub point: u32,
 }
 
-// The row that limits row i, and the point at which it does.
-fn limiting_row(timed: &Timed, i: usize) -> Limit
-    requires { i < length timed.now.rows.c.now }
-    ensures limited_by { LimitedBy (rows_in timed.now.rows) i result.row result.point }
-    ensures row_in_bounds { result.row < length timed.now.rows.c.now }
-{
-    let rows = timed.rows;
-    reasons::limit_of(rows.c, rows.d, rows.t, &timed.order, &timed.response, i)
-}
-
 // The explanation of the row with a number, from 1.
 pub fn explain(c: &[u32], d: &[u32], t: &[u32], row: u32) -> Result<Explanation, Refusal>
     ensures { Explained c.now d.now t.now row (returned_by result) (limiting_of result) (point_of result) }
@@ -151,7 +128,7 @@ pub fn explain(c: &[u32], d: &[u32], t: &[u32], row: u32) -> Result<Explanation,
         return Err(Refusal::RowNotInSet);
     }
     let timed = respond(&rows)?;
-    let limit = limiting_row(&timed, row as usize - 1);
+    let limit = reasons::limit_of(&timed, row as usize - 1);
     Ok(Explanation {
         limiting: limit.row as u32 + 1,
         point: limit.point,

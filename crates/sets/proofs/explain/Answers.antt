@@ -25,4 +25,4 @@ returns-in_err-timed c =
     rw same (miss_unexplained (checks_pass c.in_ok-rows.ensures) (omega arith) (omega arith) c.in_err-timed.ensures)
 
 pub returns : goal.returns
-returns c = limit_explained (checks_pass c.in_ok-rows.ensures) (omega arith) (omega arith) c.in_ok-timed.ensures c.limiting_row-limit.ensures.limited_by (omega arith)
+returns c = limit_explained (checks_pass c.in_ok-rows.ensures) (omega arith) (omega arith) c.in_ok-timed.ensures c.limit_of-limit.ensures.limited_by (omega arith)

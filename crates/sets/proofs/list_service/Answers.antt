@@ -17,6 +17,9 @@ returns-in_err-timed g c =
     let same : c.from_residual-in_err-timed.result ≡ Err c.in_err-timed.field-0.0 = search rules in
     rw same (miss_answered g.F.FindAllowances.allowance (checks_pass c.in_ok-rows.ensures) c.in_err-timed.ensures)
 
+pub shared_ref_as_front-fill : goal.shared_ref_as_front-fill
+shared_ref_as_front-fill g c = (checks_pass c.in_ok-rows.ensures).shaped.no_25th
+
 pub fill-requires-2 : goal.fill-requires-2
 fill-requires-2 g c =
     let passed = checks_pass c.in_ok-rows.ensures in
