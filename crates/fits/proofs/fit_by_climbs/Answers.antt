@@ -4,11 +4,8 @@ use lib.ListN.{length}
 use Rattle.climbs.proofs.StandByRank.{as_many_by_rank, deadline_by_rank}
 use Rattle.climbs.proofs.RowAtRank.{start_of_row}
 use Rattle.fits.proofs.Counting.{shortest_within}
-use Rattle.fits.proofs.Judging.{judging_begins, judging_stops, judging_more, judging_ends}
+use Rattle.fits.proofs.Judging.{judging_stops, judging_more, judging_ends}
 use Rattle.fits.proofs.fit_by_climbs.Goals as goal
-
-pub loop-j-init : goal.loop-j-init
-loop-j-init c stand = judging_begins stand
 
 pub overflow_add-before : goal.overflow_add-before
 overflow_add-before c = let so_far = c.loop-j.invariant c.by_rank-by_rank.ensures in omega (arith, so_far.following.by_million, c.row_at-row.result.in_range)

@@ -4,26 +4,15 @@ use Rattle.std.specs.Result.{OkIff}
 use Rattle.std.specs.Int.{FitsUnsignedBits}
 use Rattle.walks.proofs.Held.{held_as_it_is}
 use lib.IntN.{ℤ}
-use mathlib.Core.Path.{subst, sym}
+use mathlib.Core.Path.{subst}
 use Prim.Native.Nat.{◌≤◌}
 use native.Mathlib.Omega.{arith}
-use lib.ListN.{length, length-take}
-use lib.Seq.{length-take-le}
+use lib.ListN.{length}
 use Rattle.rows.specs.Values.{rows_in}
 use Rattle.theory.proofs.CoreAllowance.{IsCorePointAllowance}
 use Rattle.fits.proofs.SmallestOf.{smallest_of_front}
 use Rattle.fits.proofs.ByPoints.{core_points, fit_of_least}
 use Rattle.fits.proofs.fit_by_points.Goals as goal
-
-pub slice_bounds-smallest-end : goal.slice_bounds-smallest-end
-slice_bounds-smallest-end c =
-    let rows = c.args.set.now.rows in
-    sym (length-take-le _ _ (omega (arith, c.point_allowances-allowed.ensures.result_len, rows.shaped.no_25th)))
-
-pub smallest-least-requires : goal.smallest-least-requires
-smallest-least-requires c =
-    let rows = c.args.set.now.rows in
-    omega (arith, length-take (length rows.c.now) c.point_allowances-allowed.result, c.point_allowances-allowed.ensures.result_len, rows.shaped.no_25th, rows.shaped.some_row)
 
 pub returns : goal.returns
 returns c =

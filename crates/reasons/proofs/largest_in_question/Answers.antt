@@ -2,8 +2,5 @@
 use Rattle.reasons.proofs.Most.{found_is_most}
 use Rattle.reasons.proofs.largest_in_question.Goals as goal
 
-pub overflow_sub-distance : goal.overflow_sub-distance
-overflow_sub-distance c = c.requires.points_by_rank.by_deadline c.args.p c.requires.p_in_bounds
-
 pub returns : goal.returns
 returns c = rw c.unwrap_or.ensures (found_is_most c.requires.points_by_rank c.args.p c.requires.p_in_bounds 300 c.allowance_at.result c.allowance_at.ensures)

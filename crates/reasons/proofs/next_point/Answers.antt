@@ -1,12 +1,5 @@
-use mathlib.Core.Path.{◌≡◌, subst}
-use mathlib.Core.List.{List}
-use Rattle.reasons.proofs.Next.{Descending, descending_begins, descending_to_multiple, descending_at_time, descending_ends}
+use Rattle.reasons.proofs.Next.{descending_to_multiple, descending_at_time, descending_ends}
 use Rattle.reasons.proofs.next_point.Goals as goal
-
-pub loop-m-init : goal.loop-m-init
-loop-m-init c =
-    let all : c.args.row.now.t.now ≡ c.into_iter-m-iterator.result.iter.rest.now = cc in
-    subst (λ (left : List _). Descending c.args.row.now.t.now c.args.row.now.limit c.args.last left c.args.row.now.limit) all (descending_begins c.args.row.now.t.now c.args.row.now.limit c.args.last c.requires)
 
 pub loop-m-preserved-then-last-stop : goal.loop-m-preserved-then-last-stop
 loop-m-preserved-then-last-stop c =
