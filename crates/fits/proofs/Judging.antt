@@ -1,8 +1,8 @@
 -- The rows judged by rank, from the highest down, each with the row raised that counts most in its load: what holds after j of them, how it begins, goes on,
 -- stops at a miss and ends.
-use mathlib.Core.Path.{◌≡◌, refl, subst}
+use mathlib.Core.Path.{◌≡◌, subst}
 use Rattle.std.proofs.Common.{min}
-use Prim.Native.Nat.{ℕ, suc, ◌+◌, ◌≤◌, ◌<◌, zero-le}
+use Prim.Native.Nat.{ℕ, suc, ◌+◌, ◌≤◌, ◌<◌}
 use mathlib.Core.Logic.{◌⊎◌, inl, inr}
 use mathlib.Core.List.{List}
 use native.Mathlib.Nat.{mul-le-mul_left, mul-one}
@@ -25,11 +25,11 @@ use Rattle.theory.proofs.Shortest.{CountsMost, MeetsWithMost, core_allowance_by_
 use Rattle.demands.specs.Levels.{load_of}
 use Rattle.climbs.proofs.InLists.{in_rows, in_lists, deadline_of, ranked, ranked_in_lists, rank_of}
 use Rattle.climbs.specs.Ranking.{StandByRank}
-use Rattle.climbs.proofs.StandByRank.{Following, following_begins, following_more, limits_by_rank, execution_by_rank, period_by_rank, load_here}
+use Rattle.climbs.proofs.StandByRank.{Following, following_more, limits_by_rank, execution_by_rank, period_by_rank, load_here}
 use Rattle.demands.specs.Loads.{raised_load}
 use Rattle.raises.specs.Raise.{RoomBy, LargestRaise}
 use Rattle.raises.proofs.RaisedRow.{raised_meets_has_room, raised_with_room_meets}
-use Rattle.fits.proofs.Counting.{Shortest, none_before, shortest_more, shortest_within, MostCounted, most_counted}
+use Rattle.fits.proofs.Counting.{Shortest, shortest_more, shortest_within, MostCounted, most_counted}
 
 -- a raise with which there is room leaves room for the row's own time
 own_and_raise : (own : ℕ) (cs ts : List ℕ) (period limit a : ℕ) → 1 ≤ period → RoomBy (raised_load own cs ts period a) limit → own + a ≤ limit
@@ -73,18 +73,6 @@ module _ {cs ds ts executions deadlines periods : List ℕ} (stand : StandByRank
     pub shortest : Shortest periods j period
     pub by_period : allowance ≤ period
     pub following : Following executions periods j before
-
-  -- before the first
-  pub judging_begins : Judging 0 1_000_000 1_000_000 0
-  judging_begins = record {
-    places = zero-le;
-    meet = λ p h. absurd (omega arith);
-    meet_with_most = λ p h. absurd (omega arith);
-    attained = by_none refl refl;
-    shortest = none_before refl refl;
-    by_period = omega arith;
-    following = following_begins executions periods;
-  }
 
   -- a row that meets with a raise meets with less
   meets_with_most_less : {a b k : ℕ} → a ≤ b → k < length rows → MeetsWithMost rows steady b k → MeetsWithMost rows steady a k

@@ -60,15 +60,6 @@ module _ (cs ds ts : List ℕ) (p : ℕ) where
   }
 
   module _ (rows : PointsByRank cs ds ts) (inside : p < length cs) where
-    -- it begins one above the largest raise in question
-    pub search_begins : {most : ℕ} → IsMost cs ds ts p most → Searched (most + 1) None p
-    search_begins {most} is_most = record {
-      from = omega arith;
-      places = omega arith;
-      by_deadline = omega (arith, is_most.own_distance, rows.runs p inside);
-      found = record { most = most; is_most = is_most; above_it = omega arith; have_more = λ q h l. absurd (omega arith) };
-    }
-
     -- no raise in question passes the period for which a row counts it
     pub within_period : (smallest : ℕ) → smallest ≤ get_or ds p 0 → (j : ℕ) → (smallest ≤ counted_by ts p j) × (1 ≤ counted_by ts p j) × (counted_by ts p j ≤ 1_000_000)
     within_period smallest by_deadline j = go (equal_or_not j p)

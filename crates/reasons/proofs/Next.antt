@@ -6,7 +6,7 @@ use mathlib.Core.Bool.{Bool, true, false}
 use mathlib.Core.Logic.{⊎_elim}
 use mathlib.Core.List.Memᴰ
 use mathlib.Core.List.{List, [], ◌∷◌, ◌++◌, Memᴰ}
-use Rattle.std.proofs.Common.{append_assoc, append-nil, add-one}
+use Rattle.std.proofs.Common.{append_assoc, add-one}
 use Rattle.std.proofs.lemmas.List.{length_push}
 use Rattle.std.proofs.Math.Seq.{get_or-append_seam}
 use native.Mathlib.Omega.{arith}
@@ -40,15 +40,6 @@ module _ (ts : List ℕ) (limit last : ℕ) where
     pub by_limit : time ≤ limit
     pub of_walk : (q : ℕ) → Memᴰ q (walk rows level time) → Memᴰ q (walk_from ts limit)
     pub no_later : (q : ℕ) → Memᴰ q (walk_from ts limit) → last < q → PointUpTo level time q
-
-  pub descent_begins : last < limit → Descended (length ts) limit
-  descent_begins h = record {
-    levels = omega arith;
-    above_last = h;
-    by_limit = omega arith;
-    of_walk = λ q m. m;
-    no_later = λ q m above. record { point = q; yielded = m; above_last = above; not_behind = omega arith };
-  }
 
   module _ {j time : ℕ} (so_far : Descended (suc j) time) (s : ℕ) (multiple : s ≡ last_multiple (get_or ts j 0) time) where
     is_stop : s ≡ stop rows j time
@@ -106,9 +97,6 @@ module _ (ts : List ℕ) (limit last : ℕ) where
     pub passed : List ℕ
     pub together : ts ≡ left ++ passed
     pub so_far : Descended (length left) time
-
-  pub descending_begins : last < limit → Descending ts limit
-  descending_begins h = record { passed = []; together = sym (append-nil ts); so_far = descent_begins h }
 
   -- the last of those left is passed
   module _ (left before : List ℕ) (m time s : ℕ) (at_hand : Descending left time) (left_is : left ≡ before ++ m ∷ []) (multiple : s ≡ last_multiple m time) where

@@ -4,7 +4,6 @@ use lib.ListN.{length}
 use Rattle.theory.specs.Lists.{rows_of}
 use Rattle.theory.proofs.Walk.{walk_within, walk_positive}
 use Rattle.raises.specs.Raise.{load_with}
-use Rattle.raises.proofs.Raised.{raise_mono}
 use Rattle.reasons.specs.Reason.{walk_from}
 use Rattle.reasons.proofs.Reaching.{reaching_begins, reaching_ends, reached_at_limit}
 use Rattle.reasons.proofs.reach_of.Goals.{After-next_point-point}
@@ -24,7 +23,7 @@ returns-in-Some c =
 pub loop-point-init : goal.loop-point-init
 loop-point-init c =
     let row = c.args.row.now in
-    reaching_begins (load_with row c.args.enough.now.period) (raise_mono row.own row.c.now row.t.now c.args.enough.now.period) (walk_from row.t.now row.limit)
+    reaching_begins (load_with row c.args.enough.now.period) (walk_from row.t.now row.limit)
     (λ q m. walk_positive (rows_of row.t.now row.t.now row.t.now) (length row.t.now) row.limit q c.requires m)
 
 pub largest_at-requires-in-loop-point : goal.largest_at-requires-in-loop-point
@@ -38,4 +37,4 @@ overflow_add-more c =
 pub returns-after-loop-point : goal.returns-after-loop-point
 returns-after-loop-point c =
     let row = c.args.row.now in
-    reaching_ends _ (raise_mono row.own row.c.now row.t.now c.args.enough.now.period) row.t.now row.limit c.loop-point.invariant c.args.enough.now.more (omega arith)
+    reaching_ends _ row.t.now row.limit c.loop-point.point c.loop-point.more c.args.enough.now.more c.loop-point.reach c.loop-point-test.false c.loop-point.invariant
