@@ -9,7 +9,7 @@ use lib.Dec.{T, eqb}
 use lib.ListN.{length, get_or, take}
 use Rattle.theory.specs.Row.{Row, row_at}
 use Rattle.theory.specs.Rank.{rival}
-use Rattle.theory.specs.Response.{load, IsResponse, Meets, AllMeet}
+use Rattle.theory.specs.Response.{load, IsResponse, Meets}
 use Rattle.theory.specs.Climb.{LeastRoom}
 use Rattle.theory.specs.Allowance.{raised, IsAllowance}
 use Rattle.theory.specs.Points.{touches}
@@ -26,6 +26,7 @@ use Rattle.climbs.proofs.InLists.{in_rows, in_lists, deadline_of, execution_of, 
 use Rattle.climbs.proofs.AtRank.{entry_at_rank}
 use Rattle.raises.proofs.RaisedRow.{Counted, counts_before, counts_itself, raised_meets_has_room, raised_with_room_meets}
 use Rattle.responses.specs.Verdict.{RespondsInTime}
+use Rattle.responses.proofs.Meeting.{all_in_time_meet}
 use Rattle.trials.specs.Trial.{InTimeByRank, counted_by, RoomWith, AllowanceAt}
 use Rattle.trials.proofs.Search.{counts_itself_once, counts_by_period}
 
@@ -110,15 +111,10 @@ module _ {cs ds ts executions deadlines periods : List ℕ} (stand : StandByRank
     -- an allowance by rank is the row's allowance
     pub allowance_of_rank : {responses : List ℕ} → ((k : ℕ) → k < length cs → RespondsInTime rows responses k) → (a : ℕ) → AllowanceAt executions deadlines periods p a → IsAllowance rows (at p) a
     allowance_of_rank {responses} in_time a at_rank =
-        trial_allowance rows (at p) (in_rows_at p inside) a (within_steady rows stand.within) all_meet
+        trial_allowance rows (at p) (in_rows_at p inside) a (within_steady rows stand.within) (all_in_time_meet cs ds ts responses stand.shaped in_time)
         (λ k h touched. touched_meets k (rank_of cs ds ts stand.shaped k (in_lists cs ds ts stand.shaped h)) touched)
         (λ b meet. at_rank.largest b (λ j from h. room_of_meets b j from (in_set h) (meet (at j) ((raised_in_set rows (at p) b).1 (in_rows_at j (in_set h))))))
       where
-        all_meet : AllMeet rows
-        all_meet k h =
-            let responds = in_time k (in_lists cs ds ts stand.shaped h) in
-            record { response = get_or responses k 0; is_response = responds.is_response; by_deadline = responds.by_deadline }
-
         touched_meets : (k : ℕ) → Ranked cs ds ts stand.shaped k → T (touches rows (at p) k) → Meets (raised rows (at p) a) k
         touched_meets k stands touched =
             let q = stands.place in
