@@ -17,7 +17,7 @@ use Rattle.records.specs.ListBytes.{numbers_in, bytes_of, Fours, BytesAnswered, 
 use Rattle.records.proofs.Number.{AllBelow, all_below_drop}
 use Rattle.records.proofs.ListBytes.{number_first, kept}
 use Rattle.entries.specs.declared.lists.Lists.{Lists}
-use Rattle.entries.specs.Lists.{IsRead, no_rows, as_lists, AnsweredInBytes}
+use Rattle.entries.specs.Lists.{IsRead, no_rows, as_lists, AnsweredInBytes, RowBytes}
 use Rattle.entries.proofs.RowBytes.{no_rows_because}
 use Rattle.entries.proofs.Cut.{CutAnswered, refused_alike, accepted_alike}
 
@@ -64,9 +64,12 @@ module _
   }
 
   -- byte strings that are no rows
-  pub unread_answered : {cs ds ts : List ℕ} {refusal : Refusal} → IsRead cs ds ts (Err refusal) → BytesAnswered Allowance cs ds ts responses allowances (refused_with refusal) responses allowances
-  unread_answered {cs} {ds} {ts} (no_rows none) =
+  pub no_rows_answered : (cs ds ts : List ℕ) → (RowBytes cs ds ts → ⊥) → BytesAnswered Allowance cs ds ts responses allowances (returned 3 0) responses allowances
+  no_rows_answered cs ds ts none =
       ⊎_elim not_fours (λ whole. in_bytes_answered whole.0 (refused_in_bytes (rows_out_of_range whole.1))) (no_rows_because cs ds ts none)
+
+  pub unread_answered : {cs ds ts : List ℕ} {refusal : Refusal} → IsRead cs ds ts (Err refusal) → BytesAnswered Allowance cs ds ts responses allowances (refused_with refusal) responses allowances
+  unread_answered {cs} {ds} {ts} (no_rows none) = no_rows_answered cs ds ts none
 
   -- the service's result on answer lists that are cut to 24 numbers
   module _ {cs ds ts : List ℕ} {returns : Returned} {Rs As : List ℕ} (cut : CutAnswered Allowance cs ds ts (numbers_in responses) (numbers_in allowances) returns Rs As) where
