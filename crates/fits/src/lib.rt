@@ -17,9 +17,9 @@ use rows::Rows;
 
 // What short climbs tell of a row that meets: its response time and the largest raise.
 #[derive(Clone, Copy)]
-pub struct Judged {
-    pub response: u32,
-    pub raise: u32,
+struct Judged {
+    response: u32,
+    raise: u32,
 }
 
 // The smallest of the rows' allowances.

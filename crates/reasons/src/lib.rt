@@ -32,8 +32,8 @@ fn next_point(row: &RankedRow, last: u32) -> u32
     ensures { IsNextPoint row.now.t.now row.now.limit last result }
 {
     let mut time = row.limit;
-    for m in row.t.iter().rev() {
-        let stop = walks::last_multiple(*m, time);
+    for &m in row.t.iter().rev() {
+        let stop = walks::last_multiple(m, time);
         if last < stop {
             time = stop;
         }
@@ -128,7 +128,7 @@ fn place_of(order: &[usize], i: usize) -> usize
     requires { Memᴰ i order.now }
     ensures { (result < length order.now) × (get_or order.now result 0 ≡ i) }
 {
-    order.iter().position(|k| *k == i).unwrap()
+    order.iter().position(|&k| k == i).unwrap()
 }
 
 // The row that limits row i of a set that is on time, and the point at which it does.
