@@ -1,4 +1,4 @@
--- The rows judged by rank, from the highest down, each with the row raised that counts most in its load: what holds after j of them, how it begins, goes on,
+-- The rows judged by rank, from the highest down, each with the row raised that counts most in its load: what holds after j of them, how it goes on,
 -- stops at a miss and ends.
 use mathlib.Core.Path.{◌≡◌, subst}
 use Rattle.std.proofs.Common.{min}

@@ -1,4 +1,4 @@
--- The search for the row that limits the one at place p over the rows by rank, from that row down: what holds after the rows from p to before place j, how it begins, goes on
+-- The search for the row that limits the one at place p over the rows by rank, from that row down: what holds after the rows from p to before place j, how it goes on
 -- and ends.
 use Rattle.std.proofs.Common.{Option, Some, None, IsSome}
 use mathlib.Core.Path.{◌≡◌, refl, sym, subst}
