@@ -12,7 +12,10 @@ use Rattle.theory.specs.Climb.{LeastRoom, Start}
 use Rattle.theory.specs.Lists.{rows_of, Shaped}
 use Rattle.theory.proofs.Each.{all_map}
 use Rattle.demands.specs.Levels.{load_of, Small}
+use Rattle.rows.specs.declared.Rows.{Rows}
 use Rattle.climbs.specs.Ranking.{ranking_by, InRankOrder, StandByRank}
+use Rattle.climbs.specs.Placed.{AreRowsAt, AreFronts, AreByRank}
+use Rattle.climbs.specs.declared.at_places.RowsAt.{RowsAt}
 use Rattle.climbs.proofs.ByRank.{length_ranking, ranking_inside}
 use Rattle.climbs.proofs.Gathered.{shaped_at, within_at}
 use Rattle.climbs.proofs.Load.{limits_at, small_above}
@@ -23,6 +26,16 @@ use Rattle.climbs.proofs.After.{RespondsBefore, start_after}
 -- by rank there are as many numbers as rows
 pub length_by_rank : (ds xs list : List ℕ) → InRankOrder ds xs list → length list ≡ length ds
 length_by_rank ds xs list in_order = ap length in_order ∙ length-map (ranking_by ds) (λ h. get_or xs h 0) ∙ length_ranking ds
+
+-- rows that are gathered at the places by rank stand by rank
+pub gathered_stand : (rows : Rows) {held : RowsAt} {by_rank : Rows} → AreRowsAt rows (ranking_by rows.d.now) held → AreFronts held by_rank → AreByRank rows by_rank
+gathered_stand rows at_places fronts = record {
+  shaped = rows.shaped;
+  within = rows.within;
+  by_C = fronts.executions ∙ at_places.executions;
+  by_D = fronts.deadlines ∙ at_places.deadlines;
+  by_T = fronts.periods ∙ at_places.periods;
+}
 
 -- the row before place j responds at r, within a million; r is 0 before the first
 pub record Following (executions periods : List ℕ) (j r : ℕ) : Type 0 where

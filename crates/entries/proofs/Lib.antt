@@ -5,4 +5,3 @@ pub mod Bytes
 pub mod Returned
 pub mod Explained
 pub mod Lent
-pub mod Refused

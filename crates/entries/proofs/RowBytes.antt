@@ -5,6 +5,7 @@ use mathlib.Core.Logic.{◌⊎◌, inl, inr}
 use mathlib.Core.List.{List}
 use native.Mathlib.Omega.{arith}
 use lib.ListN.{length}
+use Rattle.std.specs.Prelude.{Bool, true, ◌↔◌}
 use Rattle.theory.specs.Lists.{Shaped}
 use Rattle.theory.proofs.Tests.{equal_or_not}
 use Rattle.records.specs.ListBytes.{numbers_in, Fours}
@@ -32,6 +33,10 @@ module _ (cs ds ts : List ℕ) where
         some_row = omega (arith, rows.fours, rows.shaped);
         no_25th = omega (arith, rows.fours, rows.shaped);
       }
+
+  -- the same where a test tells that they are rows
+  pub lengths_told : {told : Bool} → (told ≡ true) ↔ RowBytes cs ds ts → told ≡ true → RowLengths
+  lengths_told tells told = lengths_of_rows (tells.0 told)
 
   pub rows_of_lengths : RowLengths → RowBytes cs ds ts
   rows_of_lengths lengths =

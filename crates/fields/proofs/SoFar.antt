@@ -1,10 +1,10 @@
 -- Digits, found one by one: how they begin, go on and stop.
 use mathlib.Core.Path.{◌≡◌, refl, sym, ap, ◌∙◌}
-use Prim.Native.Nat.{ℕ, ◌+◌, ◌-◌, ◌*◌, ◌<◌}
+use Prim.Native.Nat.{ℕ, ◌+◌, ◌-◌, ◌*◌, ◌<◌, ◌≤◌}
 use native.Mathlib.Omega.{arith}
 use mathlib.Core.Bool.{true, false}
-use mathlib.Core.List.{List, [], ◌∷◌, ◌++◌, append_assoc}
-use lib.ListN.{length, get_or, take, drop, length-drop}
+use mathlib.Core.List.{List, [], ◌∷◌, ◌++◌, append_assoc, nil≢cons}
+use lib.ListN.{length, get_or, take, drop, length-drop, drop_of_length-le}
 use lib.Seq.{take_all}
 use Rattle.std.proofs.lemmas.List.{drop_more}
 use Rattle.texts.specs.Text.{is_digit, number_from}
@@ -43,3 +43,7 @@ module _ {text : List ℕ} {number many : ℕ} (so_far : DigitsTo text number (d
   -- where the next byte is no digit, they stop
   pub digits_stop : is_digit byte ≡ false → (first : ℕ) (others : List ℕ) → drop many text ≡ first ∷ others → is_digit first ≡ false
   digits_stop none first others begins = ap (λ rest. is_digit (get_or rest 0 0)) (sym begins ∙ drop_more text many 0 left) ∙ none
+
+-- at the end of the text none is next
+pub text_stops : (text : List ℕ) (end : ℕ) → length text ≤ end → (byte : ℕ) (others : List ℕ) → drop end text ≡ byte ∷ others → is_digit byte ≡ false
+text_stops text end past first others begins = absurd (nil≢cons (sym (drop_of_length-le text past) ∙ begins))

@@ -1,23 +1,26 @@
 -- From one stage of the list services to the next, and the answer that each comes to.
-use mathlib.Core.Path.{◌≡◌, refl, ap, subst, ◌∙◌}
+use mathlib.Core.Path.{◌≡◌, refl, sym, ap, subst, ◌∙◌}
 use Prim.Native.Nat.{ℕ, suc, ◌≤◌, ◌<◌}
 use mathlib.Core.List.{List}
 use native.Mathlib.Omega.{arith}
 use lib.ListN.{length, get_or, take}
 use Rattle.std.proofs.Common.{Ok, Err}
+use Rattle.std.specs.Prelude.{Result}
 use Rattle.answers.specs.declared.Refusal.{Refusal}
 use Rattle.answers.specs.declared.Refusal.TheVariants.{RowMisses}
-use Rattle.answers.specs.Answer.{refused_with}
+use Rattle.answers.specs.Answer.{refused_with, number_of}
+use Rattle.answers.proofs.Refused.{number_not_0}
 use Rattle.theory.specs.Returned.{returned}
 use Rattle.theory.specs.Row.{Row, AllWithin}
-use Rattle.theory.specs.Response.{FirstMiss, IsResponse}
+use Rattle.theory.specs.Response.{FirstMiss, IsResponse, AllMeet}
 use Rattle.theory.specs.Lists.{rows_of, Shaped, Answered, filled}
 use Rattle.theory.specs.Lists as lists
 use Rattle.rows.specs.declared.Rows.{Rows}
 use Rattle.rows.specs.Values.{rows_in}
 use Rattle.climbs.proofs.InLists.{in_lists, in_rows, front_for_each}
 use Rattle.responses.specs.Verdict.{RespondsInTime}
-use Rattle.responses.proofs.Meeting.{in_time_meets}
+use Rattle.climbs.specs.Ranking.{ranking_by}
+use Rattle.responses.proofs.Meeting.{in_time_meets, timed_meet}
 use Rattle.refusals.specs.Checked.{Checked}
 use Rattle.refusals.specs.Checked as checks
 use Rattle.responses.specs.declared.timed.Timed.{Timed}
@@ -52,6 +55,27 @@ checks_pass (checks.passed rows c d t p q) = record {
   responses_fit = p;
   allowances_fit = q;
 }
+
+-- where the number of their answer is 0, they have passed
+pub checks_passed : {cs ds ts : List ℕ} {responses allowances : ℕ} {a : Result Rows Refusal} {n : ℕ} → Checked cs ds ts responses allowances a → n ≡ number_of a → n ≡ 0
+    → (rows : Rows) × Passed cs ds ts responses allowances rows
+checks_passed {a = Ok rows} said number none = (rows, checks_pass said)
+checks_passed {a = Err refusal} said number none = absurd (number_not_0 refusal (sym number ∙ none))
+
+-- what the trials ask of a set that is on time, and what the points ask
+module _ (timed : Timed) where
+  abbrev rows : Rows
+  rows = timed.set.rows
+
+  pub trials_may_follow :
+      (Shaped rows.c.now rows.d.now rows.t.now × AllWithin (rows_in rows))
+      × (take (length rows.d.now) timed.set.order ≡ ranking_by rows.d.now)
+      × ((k : ℕ) → k < length rows.c.now → RespondsInTime (rows_in rows) timed.response k)
+  trials_may_follow = ((rows.shaped, rows.within), timed.set.ranked, timed.in_time)
+
+  pub points_may_follow :
+      (Shaped rows.c.now rows.d.now rows.t.now × AllWithin (rows_in rows)) × (take (length rows.d.now) timed.set.order ≡ ranking_by rows.d.now) × AllMeet (rows_in rows)
+  points_may_follow = ((rows.shaped, rows.within), timed.set.ranked, timed_meet timed)
 
 pub timed_same : {rows : Rows} {timed : Timed} → IsTimed rows (Ok timed) → timed.set.rows ≡ rows
 timed_same (stage.rows_in_time timed same) = same

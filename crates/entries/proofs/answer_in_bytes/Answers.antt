@@ -7,7 +7,7 @@ use borrow.Author.Rules.{rules}
 use Rattle.std.proofs.Common.{Err}
 use Rattle.entries.proofs.Bytes.{cut_refused, cut_accepted}
 use Rattle.entries.proofs.Lent.{lent_is_cut, place_for_each}
-use Rattle.entries.proofs.Refused.{number_not_0}
+use Rattle.answers.proofs.Refused.{number_not_0}
 use Rattle.entries.proofs.answer_in_bytes.Goals as goal
 
 pub returns-in_err-list_service : goal.returns-in_err-list_service

@@ -1,0 +1,27 @@
+-- The stages of a service on a table, from the numbers that its calls' answers have.
+use mathlib.Core.Path.{◌≡◌, sym, ◌∙◌}
+use Prim.Native.Nat.{ℕ}
+use Rattle.std.specs.Prelude.{Result, Ok, Err}
+use Rattle.answers.specs.declared.Refusal.{Refusal}
+use Rattle.answers.specs.Answer.{number_of}
+use Rattle.answers.proofs.Refused.{number_not_0}
+use Rattle.placement.specs.Core.{Table}
+use Rattle.placement.specs.Choice.{allowance_fit}
+use Rattle.placement.specs.Figures.{Certified}
+use Rattle.records.specs.Reading.{Reading, table, TableWithin}
+use Rattle.reading.specs.declared.table.Table.{Table as HeldTable}
+use Rattle.reading.specs.Read.{held_table, IsRead}
+use Rattle.certificates.specs.declared.certificate.Certificate.{Certificate}
+use Rattle.certificates.specs.Held.{held_figures, IsHeld}
+
+-- where it is 0, a table was read that keeps the rules
+pub read_by_number : {reading : Reading} (read : Result HeldTable Refusal) {number : ℕ} → IsRead reading read → number ≡ number_of read → number ≡ 0
+    → (held : HeldTable) × (reading ≡ table (held_table held)) × TableWithin (held_table held)
+read_by_number (Ok held) is_read given none = (held, is_read, held.within)
+read_by_number (Err refusal) is_read given none = absurd (number_not_0 refusal (sym given ∙ none))
+
+-- and it is certified
+pub certified_by_number : {t : Table} (given : Result Certificate Refusal) {number : ℕ} → IsHeld t given → number ≡ number_of given → number ≡ 0
+    → (certificate : Certificate) × Certified allowance_fit t (held_figures certificate)
+certified_by_number (Ok certificate) is_held its none = (certificate, is_held)
+certified_by_number (Err refusal) is_held its none = absurd (number_not_0 refusal (sym its ∙ none))
