@@ -3,7 +3,7 @@ use mathlib.Core.Path.{◌≡◌, refl, sym, ap, subst, ◌∙◌}
 use Prim.Native.Nat.{ℕ, ◌≤◌}
 use native.Mathlib.Omega.{arith}
 use mathlib.Core.Bool.{Bool, true, false, true≢false}
-use mathlib.Core.List.{List, [], ◌∷◌, ◌++◌, append-nil}
+use mathlib.Core.List.{List, [], ◌∷◌, ◌++◌, append-nil, append_assoc}
 use lib.ListN.{length, drop, length-append}
 use Rattle.std.specs.Prelude.{Some, None}
 use Rattle.theory.specs.Gather.{All}
@@ -94,5 +94,13 @@ module _ (Right : List ℕ → Type 0) (no_quote : (front behind : List ℕ) →
           same_fields = ap fields_behind whole ∙ content_in_field.same_fields ∙ bytes_in_field.same_fields ∙ ap fields_behind place ∙ closing_in_field.same_fields;
           right_there = λ ended. subst Right (sym (held_there ended)) right;
           only_there = λ is_right. behind_opening (begins_with quote text) (rest_of_field rest) (sym (ap rest_of_field place ∙ closing_in_field.in_field) ∙ (right_content is_right).0);
-          shorter = omega (arith, ap length whole, length-append (opening text) (bytes ++ end), length-append bytes end, ap length place, length-append (opening text) rest);
+          left_behind = record {
+            front = opening text ++ (bytes ++ opening text);
+            splits =
+                whole
+                ∙ ap (λ behind. opening text ++ (bytes ++ behind)) place
+                ∙ ap (λ behind. opening text ++ behind) (sym (append_assoc bytes (opening text) rest))
+                ∙ sym (append_assoc (opening text) (bytes ++ opening text) rest);
+            at_least = omega (arith, length-append (opening text) (bytes ++ opening text), length-append bytes (opening text));
+          };
         }

@@ -5,13 +5,30 @@ use mathlib.Core.List.{List, [], ◌∷◌, cons≢nil}
 use Rattle.texts.specs.Text.{lines_of, held}
 use Rattle.texts.specs.Rest.{first_part, other_parts, rest_of_line, lines_behind, rest_of_field, fields_behind}
 use Rattle.texts.proofs.Lines.{some_field}
-use Rattle.std.specs.Prelude.{None}
-use Rattle.fields.specs.Found.{Behind, comma_behind, line_end_behind, first_fields, EndsAt, Follow, IsBetween, Followed, NotFollowed}
+use Rattle.std.specs.Prelude.{Option, Some, None}
+use Rattle.fields.specs.Found.{Behind, comma_behind, line_end_behind, first_fields, EndsAt, Named, Follow, Between, IsBetween, Followed, NotFollowed, IsNameThen}
+use Rattle.fields.proofs.Left.{further}
 
 module _ (Right : List ℕ → Type 0) (behind : Behind) (text end : List ℕ) (ends : EndsAt Right text end) where
   -- a right field without what has to stand behind it
   pub not_followed : IsBetween behind end None → NotFollowed Right behind text
   not_followed between right follow = between (ends.only_there right) (subst (Follow behind) ends.same_fields follow)
+
+  -- a right field with it
+  pub followed : {rest : List ℕ} → Between behind end rest → Followed Right behind text rest
+  followed between =
+      record {
+        right = ends.right_there between.field_ends;
+        fields_follow = ends.same_fields ∙ between.fields_follow;
+        lines_follow = ends.same_lines ∙ between.lines_follow;
+        left_behind = further ends.left_behind between.left_behind;
+      }
+
+-- a name, and what stands behind it or not
+pub name_followed :
+    (behind : Behind) (name text end : List ℕ) → EndsAt (Named name) text end → (found : Option (List ℕ)) → IsBetween behind end found → IsNameThen behind name text found
+name_followed behind name text end ends (Some rest) between = followed (Named name) behind text end ends between
+name_followed behind name text end ends None between = not_followed (Named name) behind text end ends between
 
 -- three fields with what has to stand behind each: the fields of the first line
 module _ (One Two Three : List ℕ → Type 0) where

@@ -1,7 +1,6 @@
 -- A line by its three fields: a row, the header, or neither.
 use mathlib.Core.Path.{◌≡◌, refl, ap, ◌∙◌}
 use Prim.Native.Nat.{ℕ}
-use native.Mathlib.Omega.{arith}
 use mathlib.Core.Bool.{false}
 use mathlib.Core.List.{List}
 use mathlib.Core.Option.{Option, none, some, IsSome}
@@ -13,6 +12,7 @@ use Rattle.texts.proofs.ThreeFields.{three_numbers_row, no_row, Pairwise, no_par
 use Rattle.std.specs.Prelude.{Option as Found, Some, None}
 use Rattle.fields.specs.declared.Line.{Line}
 use Rattle.fields.specs.Found.{held_first, first_fields, comma_behind, line_end_behind, FirstNumber, Named, Followed, FirstRow, IsNameThen, IsHeader}
+use Rattle.fields.proofs.Left.{further}
 use Rattle.fields.proofs.Followed.{NotThree, not_third, all_three, lines_left}
 
 -- the number that is there
@@ -43,7 +43,7 @@ module _ (text : List ℕ) where
         is_row = three_numbers_row (all_three IsNumber IsNumber IsNumber is_c.0 is_d.0 is_t.0) c.1 d.1 t.1;
         as_held = same_row (is_c.1 c.0 c.1) (is_d.1 d.0 d.1) (is_t.1 t.0 t.1);
         lines_follow = lines_left IsNumber IsNumber IsNumber is_c.0 is_d.0 is_t.0;
-        shorter = omega (arith, is_c.0.shorter, is_d.0.shorter, is_t.0.shorter);
+        left_behind = further is_c.0.left_behind (further is_d.0.left_behind is_t.0.left_behind);
       }
 
   -- a line with a field that is not so is no header
@@ -61,5 +61,5 @@ module _ (text : List ℕ) where
       → IsHeader text found
   unfolding names
   header_found w d (Some rest) p =
-      (ap (λ fields. hold fields names) (all_three _ _ _ w d p) ∙ names_held (two w.right (two d.right (two p.right no_parts))), lines_left _ _ _ w d p, omega (arith, w.shorter, d.shorter, p.shorter))
+      (ap (λ fields. hold fields names) (all_three _ _ _ w d p) ∙ names_held (two w.right (two d.right (two p.right no_parts))), lines_left _ _ _ w d p, further w.left_behind (further d.left_behind p.left_behind))
   header_found w d None wrong = not_the_header (not_third (Named (ascii "wcet")) (Named (ascii "deadline")) (Named (ascii "period")) w d wrong)

@@ -31,19 +31,24 @@ comma_found text (Some rest) there =
       field_ends = ap rest_of_field there ∙ comma_ends_field rest.now;
       fields_follow = ap fields_behind there ∙ fields_behind_comma rest.now;
       lines_follow = ap lines_behind there ∙ lines_stay_behind comma rest.now (λ same. omega arith) (λ same. absurd (omega arith));
-      not_longer = omega (arith, ap length there);
+      left_behind = record { front = comma ∷ []; splits = there; at_least = omega arith };
     }
 
 -- the end of the text
 pub text_end : (text : List ℕ) → length text ≡ 0 → Between line_end_behind text text
-text_end [] none = record { field_ends = text_ends.field_ends; fields_follow = text_ends.no_fields; lines_follow = text_ends.lines_follow; not_longer = omega arith }
+text_end [] none = record { field_ends = text_ends.field_ends; fields_follow = text_ends.no_fields; lines_follow = text_ends.lines_follow; left_behind = record { front = []; splits = refl; at_least = omega arith } }
 text_end (byte ∷ text) none = absurd (omega arith)
 
 -- LF
 pub LF_found : (text rest : List ℕ) → text ≡ LF ∷ rest → Between line_end_behind text rest
 LF_found text rest there =
     let ends : LineEnds text rest = rw there (LF_ends rest) in
-    record { field_ends = ends.field_ends; fields_follow = ends.no_fields; lines_follow = ends.lines_follow; not_longer = omega (arith, ap length there) }
+    record {
+      field_ends = ends.field_ends;
+      fields_follow = ends.no_fields;
+      lines_follow = ends.lines_follow;
+      left_behind = record { front = LF ∷ []; splits = there; at_least = omega arith };
+    }
 
 -- CR LF, or another byte
 pub CR_LF_found :
@@ -52,7 +57,12 @@ pub CR_LF_found :
     → IsBetween line_end_behind text (option_copied found)
 CR_LF_found text (Some rest) some_byte no_LF there =
     let ends : LineEnds text rest.now = rw there (CR_LF_ends rest.now) in
-    record { field_ends = ends.field_ends; fields_follow = ends.no_fields; lines_follow = ends.lines_follow; not_longer = omega (arith, ap length there) }
+    record {
+      field_ends = ends.field_ends;
+      fields_follow = ends.no_fields;
+      lines_follow = ends.lines_follow;
+      left_behind = record { front = CR ∷ LF ∷ []; splits = there; at_least = omega arith };
+    }
 CR_LF_found [] None some_byte no_LF no_CR_LF = absurd (some_byte refl)
 CR_LF_found (byte ∷ others) None some_byte no_LF no_CR_LF =
     line_not_ended byte others (λ is_LF. no_LF others (ap (λ b. b ∷ others) is_LF))

@@ -40,9 +40,9 @@ module _ {text : List ℕ} {number many : ℕ} (so_far : DigitsTo text number (d
         as_held = held ∙ ap (λ (n : ℕ). capped (n * 10 + (byte - 48))) so_far.as_held ∙ capped_digit so_far.value (byte - 48);
       }
 
-  -- where the next byte is no digit, they stop
-  pub digits_stop : is_digit byte ≡ false → (first : ℕ) (others : List ℕ) → drop many text ≡ first ∷ others → is_digit first ≡ false
-  digits_stop none first others begins = ap (λ rest. is_digit (get_or rest 0 0)) (sym begins ∙ drop_more text many 0 left) ∙ none
+-- where the byte at a place is no digit, they stop
+pub digits_stop : (text : List ℕ) (end : ℕ) → end < length text → is_digit (get_or text end 0) ≡ false → (byte : ℕ) (others : List ℕ) → drop end text ≡ byte ∷ others → is_digit byte ≡ false
+digits_stop text end inside none first others begins = ap (λ rest. is_digit (get_or rest 0 0)) (sym begins ∙ drop_more text end 0 inside) ∙ none
 
 -- at the end of the text none is next
 pub text_stops : (text : List ℕ) (end : ℕ) → length text ≤ end → (byte : ℕ) (others : List ℕ) → drop end text ≡ byte ∷ others → is_digit byte ≡ false

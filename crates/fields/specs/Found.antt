@@ -1,5 +1,5 @@
 -- The fields and lines of a text as the code finds them from the front: what is there, and what is left behind it.
-use Rattle.std.specs.Prelude.{◌≡◌, ℕ, ◌≤◌, ◌<◌, min, true, false, Option, Some, None, List, [], ◌∷◌, ◌++◌, length}
+use Rattle.std.specs.Prelude.{◌≡◌, ℕ, ◌≤◌, min, true, false, Option, Some, None, List, [], ◌∷◌, ◌++◌, length}
 use Rattle.std.proofs.Math.Option.{none, some}
 use Rattle.theory.specs.Row.{Row}
 use Rattle.rows.specs.Values.{row_of}
@@ -26,6 +26,12 @@ capped_row row = record { C = capped row.C; D = capped row.D; T = capped row.T }
 abbrev pub opening : List ℕ → List ℕ
 opening text = elim (begins_with quote text) [ true ↦ quote ∷ [] | false ↦ [] ]
 
+-- the end of a text, which is left behind its first bytes, so many at least
+pub record LeftBehind (least : ℕ) (text rest : List ℕ) : Type 0 where
+  pub front : List ℕ
+  pub splits : text ≡ front ++ rest
+  pub at_least : least ≤ length front
+
 -- digits at the front, what is left behind them, and their number as the code holds it
 pub record DigitsTo (text : List ℕ) (number : ℕ) (rest : List ℕ) : Type 0 where
   pub bytes : List ℕ
@@ -49,7 +55,7 @@ pub record EndsAt (Right : List ℕ → Type 0) (text rest : List ℕ) : Type 0 
   pub same_fields : fields_behind text ≡ fields_behind rest
   pub right_there : rest_of_field rest ≡ [] → Right (held_first text)
   pub only_there : Right (held_first text) → rest_of_field rest ≡ []
-  pub shorter : length rest < length text
+  pub left_behind : LeftBehind 1 text rest
 
 -- the first field does not hold what is right
 abbrev pub Wrong : (List ℕ → Type 0) → List ℕ → Type 0
@@ -97,7 +103,7 @@ pub record Between (behind : Behind) (text rest : List ℕ) : Type 0 where
   pub field_ends : rest_of_field text ≡ []
   pub fields_follow : fields_behind text ≡ fields_on behind rest
   pub lines_follow : lines_behind text ≡ lines_on behind rest
-  pub not_longer : length rest ≤ length text
+  pub left_behind : LeftBehind 0 text rest
 
 abbrev pub IsBetween : Behind → List ℕ → Option (List ℕ) → Type 0
 IsBetween behind text (Some rest) = Between behind text rest
@@ -108,7 +114,7 @@ pub record Followed (Right : List ℕ → Type 0) (behind : Behind) (text rest :
   pub right : Right (held_first text)
   pub fields_follow : fields_behind text ≡ fields_on behind rest
   pub lines_follow : lines_behind text ≡ lines_on behind rest
-  pub shorter : length rest < length text
+  pub left_behind : LeftBehind 1 text rest
 
 -- or it is not so
 abbrev pub NotFollowed : (List ℕ → Type 0) → Behind → List ℕ → Type 0
@@ -124,7 +130,7 @@ IsNameThen behind name text None = NotFollowed (Named name) behind text
 
 -- the header, and what is left behind it; or another line
 abbrev pub IsHeader : List ℕ → Option (List ℕ) → Type 0
-IsHeader text (Some rest) = (hold (first_fields text) names ≡ true) × (lines_behind text ≡ lines_of rest) × (length rest < length text)
+IsHeader text (Some rest) = (hold (first_fields text) names ≡ true) × (lines_behind text ≡ lines_of rest) × LeftBehind 1 text rest
 IsHeader text None = hold (first_fields text) names ≡ false
 
 -- the first line: a row, as the code holds it
@@ -133,7 +139,7 @@ pub record FirstRow (text : List ℕ) (line : Line) : Type 0 where
   pub is_row : row_in (first_fields text) ≡ some row
   pub as_held : row_of line.row ≡ capped_row row
   pub lines_follow : lines_behind text ≡ lines_of line.rest.now
-  pub shorter : length line.rest.now < length text
+  pub left_behind : LeftBehind 1 text line.rest.now
 
 -- a row, or no row
 abbrev pub IsLine : List ℕ → Option Line → Type 0

@@ -9,11 +9,12 @@ use Rattle.texts.specs.Text.{not_of_the_form, lines_of, rows_from, headed, text_
 use Rattle.texts.specs.Table.{in_rows_place, on_cores, read_text}
 use Rattle.texts.proofs.Lines.{some_line}
 use Rattle.fields.specs.Found.{IsHeader}
+use Rattle.fields.proofs.Left.{shorter}
 
 -- behind the header come the rows
 pub header_read : (text rest : List ℕ) → IsHeader text (Some rest) → text_of text ≡ rows_from 2 (lines_of rest)
 unfolding text_of headed
-header_read [] rest found = absurd (omega (arith, found.2))
+header_read [] rest found = absurd (omega (arith, shorter found.2))
 header_read (byte ∷ text) rest found = ap headed (some_line byte text) ∙ rw (found.0, headed) (ap (rows_from 2) found.1)
 
 -- without it the text is not of the form at line 1

@@ -25,6 +25,7 @@ use Rattle.texts.specs.Table.{judged, table_from, in_rows_place, on_cores, read_
 use Rattle.texts.proofs.Lines.{some_line}
 use Rattle.fields.specs.declared.Line.{Line}
 use Rattle.fields.specs.Found.{first_fields, capped_row, IsHeader, FirstRow}
+use Rattle.fields.proofs.Left.{shorter}
 use Rattle.parsing.specs.Judging.{judged_row, judged_table}
 use Rattle.parsing.proofs.Judging.{Judging, none_judged, capped_within, row_judged}
 use Rattle.parsing.proofs.Header.{header_read}
@@ -93,7 +94,7 @@ module _ (text : List ℕ) where
         c_long = c_long;
         d_long = d_long;
         t_long = t_long;
-        lines_few = omega (arith, found.2);
+        lines_few = omega (arith, shorter found.2);
       }
 
   module _ {c d t : List ℕ} {n : ℕ} {fault : Result (Unit {0}) Refusal} {rest : List ℕ} (stands : SoFar text c d t n fault rest) (left : length rest ≡ 0 → ⊥) where
@@ -138,7 +139,7 @@ module _ (text : List ℕ) where
             c_long = c_long ∙ stands.c_long;
             d_long = d_long ∙ stands.d_long;
             t_long = t_long ∙ stands.t_long;
-            lines_few = omega (arith, found.shorter, stands.lines_few);
+            lines_few = omega (arith, shorter found.left_behind, stands.lines_few);
           }
 
     -- a line that is no row

@@ -12,7 +12,7 @@ loop-many-init c = digits_begin c.args.text.now
 pub returns-then-not-is_ascii_digit : goal.returns-then-not-is_ascii_digit
 returns-then-not-is_ascii_digit c =
     rw (rest_is c.args.text.now c.loop-many.many)
-    (c.loop-many.invariant, digits_stop c.loop-many.invariant c.loop-many-test.true (sym c.is_ascii_digit.ensures.value ∙ c.if-not-is_ascii_digit.true))
+    (c.loop-many.invariant, digits_stop c.args.text.now c.loop-many.many c.loop-many-test.true (sym c.is_ascii_digit.ensures.value ∙ c.if-not-is_ascii_digit.true))
 
 pub loop-many-preserved : goal.loop-many-preserved
 loop-many-preserved c =
