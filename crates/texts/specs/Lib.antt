@@ -1,5 +1,5 @@
 -- Document 02, request 2, as definitions: what a text is, what it is as a table, every way to write one, and the text that is written; then what the code's
--- contracts need to speak of a place in a text.
+-- contracts need to speak of what is left of a text.
 pub mod Text
 pub mod Table
 pub mod Forms

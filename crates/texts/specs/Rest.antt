@@ -1,5 +1,4 @@
--- For the contracts of the code, which reads a text from the front: what stands from a place on, the rest of a field, of its line, and of the text. The promises do
--- not speak of it.
+-- For the contracts of the code, which reads a text from the front: what is left of a field, of its line, and of the text. The promises do not speak of it.
 use Rattle.std.specs.Prelude.{ℕ, ◌<◌, List, [], ◌∷◌}
 use Rattle.std.proofs.Math.Option.{IsSome}
 use Rattle.texts.specs.Text.{comma, lines_of, fields_of, number_in}
