@@ -15,13 +15,13 @@ use Rattle.placement.proofs.PlacesOn.{places_none, places_at_most, places_in_tab
 use Rattle.cores.specs.Cores.{held_places, HoldsCores, HeldWithout}
 
 -- at the start no core has a row
-pub held_none : (n : ℕ) (rows : List (List ℕ)) → length rows ≡ 8 → HoldsCores (replicate n 0) rows (replicate 8 0)
-held_none n rows eight = record {
+pub held_none : (n : ℕ) (rows : List (List ℕ)) (counts : List ℕ) → length rows ≡ 8 → counts ≡ replicate 8 0 → HoldsCores (replicate n 0) rows counts
+held_none n rows counts eight none = rw none (record {
   eight_arrays = eight;
   eight_counts = refl;
   how_many = λ m h. get_or-replicate 8 m 0 0 h ∙ sym (ap length (places_none n (suc m) (omega arith)));
   places = λ m h. ap (λ (k : ℕ). take k (get_or rows m [])) (get_or-replicate 8 m 0 0 h) ∙ sym (places_none n (suc m) (omega arith));
-}
+})
 
 module _ {assignment : List ℕ} {rows : List (List ℕ)} {counts : List ℕ} (holds : HoldsCores assignment rows counts) (m : ℕ) (on_table : m < 8) where
   -- as many places are held as are counted
