@@ -1,21 +1,12 @@
 -- A row's jobs as std rounds up; what the first j rows of two lists ask for, and how much that can be.
 use mathlib.Core.Path.{◌≡◌}
-use Prim.Native.Nat.{ℕ, zero, suc, min, ◌+◌, ◌-◌, ◌*◌, ◌/◌, ◌%◌, ◌≤◌, ◌<◌}
+use Prim.Native.Nat.{ℕ, zero, suc, ◌+◌, ◌-◌, ◌*◌, ◌/◌, ◌≤◌, ◌<◌}
 use mathlib.Core.List.{List, [], ◌∷◌}
 use native.Mathlib.Omega.{arith}
-use native.Mathlib.Nat.{mul-le-mul_left, mul_comm, div-mul-le_self, le_antisymm, le_of_suc-le-suc, suc-mul, lt_of_mul-lt-mul_right}
-use Rattle.std.proofs.lemmas.Grind.{div_ceil_times}
-use Rattle.theory.proofs.Ceil.{ceil_le, le_ceil}
+use native.Mathlib.Nat.{mul-le-mul_left, mul_comm, div-mul-le_self}
 use lib.ListN.{length, get_or, take}
 use Rattle.theory.specs.Response.{ceil}
 use Rattle.demands.specs.Levels.{demand_of}
-
--- the ceiling is std's
-pub ceil_is_div_ceil : (t m : ℕ) → 0 < m → ceil t m ≡ t / m + min 1 (t % m)
-ceil_is_div_ceil t m h = le_antisymm (ceil_le t _ h (div_ceil_times t m h).0) (go (ceil t m) (le_ceil t h))
-  where
-    go : (n : ℕ) → t ≤ n * m → t / m + min 1 (t % m) ≤ n
-    go n e = le_of_suc-le-suc (lt_of_mul-lt-mul_right m (omega (arith, (div_ceil_times t m h).1, suc-mul n m)))
 
 -- one row more
 pub demand_of_one_more : (cs ts : List ℕ) (j t : ℕ) → j < length cs → length ts ≡ length cs
