@@ -4,6 +4,10 @@ use Rattle.theory.specs.Returned.{Returned, returned}
 use Rattle.answers.specs.declared.Refusal.{Refusal}
 use Rattle.answers.specs.declared.Refusal.TheVariants.{RecordsBroken, CoresOutOfRange, RowsOutOfRange, RowBreaksLimits, CountDiffers, NoCoreTakes, OutputTooShort, RowMisses, LineBroken, RowNotInSet}
 
+-- what a call comes to that writes what it gives
+abbrev pub Answer : Type 0
+Answer = Result (Unit {0}) Refusal
+
 -- number and row of each refusal
 abbrev pub refused_with : Refusal → Returned
 refused_with RecordsBroken = returned 1 0

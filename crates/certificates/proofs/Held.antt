@@ -5,8 +5,9 @@ use mathlib.Core.List.{List, [], ◌∷◌, ◌++◌}
 use native.Mathlib.Omega.{arith}
 use lib.ListN.{length, take, drop, replicate}
 use lib.Seq.{take_at}
-use Rattle.std.specs.Prelude.{Result, Ok, Err}
+use Rattle.std.specs.Prelude.{Ok, Err}
 use Rattle.answers.specs.declared.Refusal.{Refusal}
+use Rattle.answers.specs.Answer.{Answer}
 use Rattle.placement.specs.Core.{Table}
 use Rattle.placement.specs.Choice.{allowance_fit}
 use Rattle.placement.specs.Placement.{Moment}
@@ -26,12 +27,12 @@ take_zeros (suc n) (suc m) h = ap (λ (zeros : List ℕ). 0 ∷ zeros) (take_zer
 
 module _ {table : Table} {assignment : List ℕ} {rows : List (List ℕ)} {counts : List ℕ} where
   -- a placement that is refused is the certificate that no core takes a row
-  pub refused_held : {answer : Result (Unit {0}) Refusal} {refusal : Refusal} → IsPlaced allowance_fit table assignment rows counts answer → answer ≡ Err refusal → IsHeld table (Err refusal)
+  pub refused_held : {answer : Answer} {refusal : Refusal} → IsPlaced allowance_fit table assignment rows counts answer → answer ≡ Err refusal → IsHeld table (Err refusal)
   refused_held (placed moment holds) refused = cc refused
   refused_held (stopped i stop) refused = (i, cc refused, stop)
 
   -- one that is not has every row placed
-  pub accepted_placed : {answer : Result (Unit {0}) Refusal} → IsPlaced allowance_fit table assignment rows counts answer → answer ≡ Ok tt
+  pub accepted_placed : {answer : Answer} → IsPlaced allowance_fit table assignment rows counts answer → answer ≡ Ok tt
       → Moment allowance_fit table assignment [] × HoldsCores assignment rows counts
   accepted_placed (placed moment holds) accepted = (moment, holds)
   accepted_placed (stopped i stop) accepted = cc accepted

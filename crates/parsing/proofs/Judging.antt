@@ -7,8 +7,8 @@ use mathlib.Core.List.{List, [], ◌∷◌, ◌++◌, append_assoc}
 use lib.Dec.{leb}
 use lib.ListN.{length, length-append}
 use borrow.Author.Tests.{leb-true, leb-false}
-use Rattle.std.specs.Prelude.{Result, Ok, Err}
-use Rattle.answers.specs.declared.Refusal.{Refusal}
+use Rattle.std.specs.Prelude.{Ok, Err}
+use Rattle.answers.specs.Answer.{Answer}
 use Rattle.answers.specs.declared.Refusal.TheVariants.{RowsOutOfRange, RowBreaksLimits}
 use Rattle.theory.specs.Row.{Row, WithinLimits, within_limits}
 use Rattle.theory.proofs.Limits.{passing_keeps_limits}
@@ -20,7 +20,7 @@ use Rattle.fields.specs.Found.{capped, capped_row}
 use Rattle.parsing.specs.Judging.{judged_row}
 
 -- rows from the front and their fault: none, and judging goes on behind them; or one, and nothing behind them changes it
-abbrev pub Judging : List Row → Result (Unit {0}) Refusal → Type 0
+abbrev pub Judging : List Row → Answer → Type 0
 Judging rows (Ok none) = (length rows ≤ 24) × ((more : List Row) (whole : Reading) → judged 1 (rows ++ more) whole ≡ judged (suc (length rows)) more whole)
 Judging rows (Err fault) = (more : List Row) (whole : Reading) → judged 1 (rows ++ more) whole ≡ refused_by fault
 
@@ -58,7 +58,7 @@ module _ (rows : List Row) (row : Row) where
   behind more whole = ap (λ all. judged 1 all whole) (append_assoc rows (row ∷ []) more)
 
   -- one row more
-  pub row_judged : (fault : Result (Unit {0}) Refusal) → Judging rows fault → Judging (rows ++ (row ∷ [])) (judged_row fault (length rows) (capped_row row))
+  pub row_judged : (fault : Answer) → Judging rows fault → Judging (rows ++ (row ∷ [])) (judged_row fault (length rows) (capped_row row))
   row_judged (Err fault) judges = λ more whole. behind more whole ∙ judges (row ∷ more) whole
   row_judged (Ok none) judges = go (leb 24 (length rows)) refl (within_limits (capped_row row)) refl
     where

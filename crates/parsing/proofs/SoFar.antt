@@ -9,8 +9,9 @@ use lib.Dec.{leb, eqb}
 use lib.ListN.{length, set, length-append}
 use Rattle.std.proofs.lemmas.List.{nil_from_length}
 use borrow.Author.Tests.{ne_eqb, eq-eqb, leb-false}
-use Rattle.std.specs.Prelude.{Some, Result, Ok, Err}
+use Rattle.std.specs.Prelude.{Some, Ok, Err}
 use Rattle.answers.specs.declared.Refusal.{Refusal}
+use Rattle.answers.specs.Answer.{Answer}
 use Rattle.answers.specs.declared.Refusal.TheVariants.{CoresOutOfRange, RowsOutOfRange, RowBreaksLimits}
 use Rattle.theory.specs.Row.{Row, within_limits}
 use Rattle.theory.specs.Lists.{rows_of}
@@ -51,7 +52,7 @@ with_none [] = refl
 with_none (row ∷ rows) = ap (with_row row) (with_none rows)
 
 -- where the reading stands: the lines left are still to be read, behind the rows that have been
-pub record SoFar (text : List ℕ) (c d t : List ℕ) (n : ℕ) (fault : Result (Unit {0}) Refusal) (rest : List ℕ) : Type 0 where
+pub record SoFar (text : List ℕ) (c d t : List ℕ) (n : ℕ) (fault : Answer) (rest : List ℕ) : Type 0 where
   pub so_far : List Row
   pub many : length so_far ≡ n
   pub reads_on : text_of text ≡ with_rows so_far (rows_from (n + 2) (lines_of rest))
@@ -63,14 +64,14 @@ pub record SoFar (text : List ℕ) (c d t : List ℕ) (n : ℕ) (fault : Result 
   pub lines_few : n + length rest < length text
 
 -- a row that is taken is behind rows without a fault, and there is room for it
-pub row_taken : (fault : Result (Unit {0}) Refusal) (n : ℕ) (row : Row) → judged_row fault n row ≡ Ok tt → (fault ≡ Ok tt) × (n < 24) × (within_limits row ≡ true)
+pub row_taken : (fault : Answer) (n : ℕ) (row : Row) → judged_row fault n row ≡ Ok tt → (fault ≡ Ok tt) × (n < 24) × (within_limits row ≡ true)
 row_taken (Err fault) n row taken = cc
 row_taken (Ok sound) n row taken = go (leb 24 n) refl (within_limits row) refl taken
   where
     go :
         (full : Bool) → leb 24 n ≡ full → (within : Bool) → within_limits row ≡ within
-        → ◌≡◌ {A = Result (Unit {0}) Refusal} (elim full [ true ↦ Err RowsOutOfRange | false ↦ elim within [ true ↦ Ok tt | false ↦ Err (RowBreaksLimits (n + 1)) ] ]) (Ok tt)
-        → (◌≡◌ {A = Result (Unit {0}) Refusal} (Ok sound) (Ok tt)) × (n < 24) × (within_limits row ≡ true)
+        → ◌≡◌ {A = Answer} (elim full [ true ↦ Err RowsOutOfRange | false ↦ elim within [ true ↦ Ok tt | false ↦ Err (RowBreaksLimits (n + 1)) ] ]) (Ok tt)
+        → (◌≡◌ {A = Answer} (Ok sound) (Ok tt)) × (n < 24) × (within_limits row ≡ true)
     go true is_full within limits taken = cc
     go false is_full true limits taken = (refl, leb-false 24 n is_full, limits)
     go false is_full false limits taken = cc
@@ -97,7 +98,7 @@ module _ (text : List ℕ) where
         lines_few = omega (arith, shorter found.2);
       }
 
-  module _ {c d t : List ℕ} {n : ℕ} {fault : Result (Unit {0}) Refusal} {rest : List ℕ} (stands : SoFar text c d t n fault rest) (left : length rest ≡ 0 → ⊥) where
+  module _ {c d t : List ℕ} {n : ℕ} {fault : Answer} {rest : List ℕ} (stands : SoFar text c d t n fault rest) (left : length rest ≡ 0 → ⊥) where
     module _ (line : Line) (found : FirstRow rest line) where
       abbrev taken : Row
       taken = row_of line.row
@@ -118,7 +119,7 @@ module _ (text : List ℕ) where
 
       -- behind one more row
       pub goes_on :
-          {kept_c kept_d kept_t : List ℕ} {judges : Result (Unit {0}) Refusal} → judges ≡ judged_row fault n taken
+          {kept_c kept_d kept_t : List ℕ} {judges : Answer} → judges ≡ judged_row fault n taken
           → (judges ≡ Ok tt → stands.so_far ++ (found.row ∷ []) ≡ held_rows (n + 1) kept_c kept_d kept_t)
           → length kept_c ≡ length c → length kept_d ≡ length d → length kept_t ≡ length t
           → SoFar text kept_c kept_d kept_t (n + 1) judges line.rest.now
@@ -149,18 +150,18 @@ module _ (text : List ℕ) where
         ap (on_cores cores) (stands.reads_on ∙ ap (with_rows stands.so_far) (ap (rows_from (n + 2)) (some_line_left rest left) ∙ rw (no_row, rows_from)) ∙ with_broken stands.so_far (n + 2))
 
   -- at the end of the text
-  module _ (cores : ℕ) {c d t : List ℕ} {n : ℕ} {fault : Result (Unit {0}) Refusal} {rest : List ℕ} (stands : SoFar text c d t n fault rest) (past : length rest ≡ 0) where
+  module _ (cores : ℕ) {c d t : List ℕ} {n : ℕ} {fault : Answer} {rest : List ℕ} (stands : SoFar text c d t n fault rest) (past : length rest ≡ 0) where
     all_rows : text_of text ≡ of_rows stands.so_far
     unfolding rows_from lines_of
     all_rows = stands.reads_on ∙ ap (λ left. with_rows stands.so_far (rows_from (n + 2) (lines_of left))) (nil_from_length rest past) ∙ with_none stands.so_far
 
     -- what is read, by the answer to all rows
-    abbrev Comes : Reading → Result (Unit {0}) Refusal → Type 0
+    abbrev Comes : Reading → Answer → Type 0
     Comes reading (Ok sound) = (reading ≡ table (record { cores = cores; rows = held_rows n c d t })) × Held n c d t
     Comes reading (Err refusal) = reading ≡ refused_by refusal
 
     -- some rows
-    rows_end : (found : Result (Unit {0}) Refusal) → fault ≡ found → Judging stands.so_far found → Comes (judged 1 stands.so_far (table (record { cores = cores; rows = stands.so_far }))) found
+    rows_end : (found : Answer) → fault ≡ found → Judging stands.so_far found → Comes (judged 1 stands.so_far (table (record { cores = cores; rows = stands.so_far }))) found
     unfolding judged
     rows_end (Err refusal) same judges = ap (λ (rows : List Row). judged 1 rows (table (record { cores = cores; rows = stands.so_far }))) (sym (append-nil stands.so_far)) ∙ judges [] _
     rows_end (Ok sound) same judges = (
@@ -185,8 +186,8 @@ module _ (text : List ℕ) where
             rw (ne_eqb n 0 (λ no_rows. omega (arith, stands.many, ap length same)))
             (subst (λ (rows : List Row). Comes (judged 1 rows (table (record { cores = cores; rows = rows }))) fault) (sym same) (rows_end fault refl stands.judging))
 
-    pub ends_refused : {refusal : Refusal} {answer : Result (Unit {0}) Refusal} → answer ≡ judged_table cores n fault → answer ≡ Err refusal → read_text cores text ≡ refused_by refusal
+    pub ends_refused : {refusal : Refusal} {answer : Answer} → answer ≡ judged_table cores n fault → answer ≡ Err refusal → read_text cores text ≡ refused_by refusal
     ends_refused judges refuses = subst (Comes (read_text cores text)) (sym judges ∙ refuses) judged_end
 
-    pub ends : {answer : Result (Unit {0}) Refusal} → answer ≡ judged_table cores n fault → answer ≡ Ok tt → (read_text cores text ≡ table (record { cores = cores; rows = held_rows n c d t })) × Held n c d t
+    pub ends : {answer : Answer} → answer ≡ judged_table cores n fault → answer ≡ Ok tt → (read_text cores text ≡ table (record { cores = cores; rows = held_rows n c d t })) × Held n c d t
     ends judges accepts = subst (Comes (read_text cores text)) (sym judges ∙ accepts) judged_end

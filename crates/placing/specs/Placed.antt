@@ -1,6 +1,6 @@
 -- A placement as the code leaves it: each row's core in one list, each core's rows beside it.
-use Rattle.std.specs.Prelude.{ℕ, suc, List, [], Result, Ok, Err}
-use Rattle.answers.specs.declared.Refusal.{Refusal}
+use Rattle.std.specs.Prelude.{ℕ, suc, List, [], Ok, Err}
+use Rattle.answers.specs.Answer.{Answer}
 use Rattle.answers.specs.declared.Refusal.TheVariants.{NoCoreTakes}
 use Rattle.theory.specs.Lists.{rows_of}
 use Rattle.placement.specs.Core.{Table}
@@ -17,6 +17,6 @@ abbrev pub table_in : ℕ → Rows → Table
 table_in cores rows = table_of cores rows.c.now rows.d.now rows.t.now
 
 -- every row is placed, and the cores hold that; or there is a row that no core takes
-pub data IsPlaced (rule : Rule) (table : Table) (assignment : List ℕ) (rows : List (List ℕ)) (counts : List ℕ) : Result (Unit {0}) Refusal → Type 0 where
+pub data IsPlaced (rule : Rule) (table : Table) (assignment : List ℕ) (rows : List (List ℕ)) (counts : List ℕ) : Answer → Type 0 where
   placed : Moment rule table assignment [] → HoldsCores assignment rows counts → IsPlaced rule table assignment rows counts (Ok tt)
   stopped : (i : ℕ) → Stopped rule table i → IsPlaced rule table assignment rows counts (Err (NoCoreTakes (suc i)))

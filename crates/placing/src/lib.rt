@@ -12,7 +12,7 @@ ghost use Rattle.choices.specs.Among.{IsChoiceAmong};
 ghost use Rattle.placing.specs.Considered.{considered};
 ghost use Rattle.placing.specs.Placed.{table_in, IsPlaced};
 
-use answers::Refusal;
+use answers::{Answer, Refusal};
 use choices::Candidate;
 use cores::Cores;
 use rows::Rows;
@@ -58,12 +58,7 @@ fn choose(rows: &Rows, cores: usize, held: &Cores, i: usize) -> Option<Candidate
 }
 
 // Places the rows of a table in the order in which they are taken: `core` then has each row's core, and the cores have their rows.
-pub fn place_rows(
-    rows: &Rows,
-    cores: usize,
-    core: &mut [u32],
-    held: &mut Cores,
-) -> Result<(), Refusal>
+pub fn place_rows(rows: &Rows, cores: usize, core: &mut [u32], held: &mut Cores) -> Answer
     requires cores_bound { cores ≤ 8 }
     requires core_value { (core.old ≡ replicate (length rows.now.c.now) 0) × HoldsCores core.old held.old.rows held.old.counts }
     ensures { IsPlaced allowance_fit (table_in cores rows.now) core.new held.new.rows held.new.counts result }

@@ -7,8 +7,8 @@ use native.Mathlib.Omega.{arith}
 use native.Mathlib.Numerals.{add-one}
 use lib.ListN.{length, get_or, drop}
 use borrow.Author.Tests.{le-leb, lt-leb, ne_eqb}
-use Rattle.std.specs.Prelude.{Result, Err}
-use Rattle.answers.specs.declared.Refusal.{Refusal}
+use Rattle.std.specs.Prelude.{Err}
+use Rattle.answers.specs.Answer.{Answer}
 use Rattle.answers.specs.declared.Refusal.TheVariants.{RecordsBroken, RowsOutOfRange, RowBreaksLimits}
 use Rattle.theory.specs.Row.{Row, within_limits}
 use Rattle.records.specs.Reading.{Reading, row_in, read_row, read_record, read_rows}
@@ -55,7 +55,7 @@ module _ (records : List ℕ) (n : ℕ) where
   none_there none cores rows many = rw (none_left records none) (however_many_left cores rows [] _ (λ row. refl) (24 - n))
 
   module _ (some : 1 ≤ length records) where
-    pub count_there : (answer : Result (Unit {0}) Refusal) → get_or records 0 0 ≡ 4 → IsCount (drop 1 records) n answer → Ends records n answer
+    pub count_there : (answer : Answer) → get_or records 0 0 ≡ 4 → IsCount (drop 1 records) n answer → Ends records n answer
     unfolding read_record
     count_there answer is-count says cores rows many =
         rw (byte_and_rest records some, is-count) (however_many_left cores rows _ _ (λ row. says cores rows many) (24 - n))

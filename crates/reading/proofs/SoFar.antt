@@ -3,8 +3,7 @@ use mathlib.Core.Path.{◌≡◌, refl, ◌∙◌}
 use Prim.Native.Nat.{ℕ, ◌+◌, ◌-◌}
 use mathlib.Core.List.{List, []}
 use lib.ListN.{drop, set}
-use Rattle.std.specs.Prelude.{Result}
-use Rattle.answers.specs.declared.Refusal.{Refusal}
+use Rattle.answers.specs.Answer.{Answer}
 use Rattle.theory.specs.Row.{Row}
 use Rattle.theory.specs.Lists.{rows_of}
 use Rattle.records.specs.Reading.{read_rows}
@@ -34,5 +33,5 @@ module _ (records : List ℕ) (cores : ℕ) where
     }
 
     -- at the end
-    pub ends : (answer : Result (Unit {0}) Refusal) → Ends rest n answer → read_rows 24 cores [] records ≡ ended_with answer cores (held_rows n c d t)
+    pub ends : (answer : Answer) → Ends rest n answer → read_rows 24 cores [] records ≡ ended_with answer cores (held_rows n c d t)
     ends answer says = so_far.reads_on ∙ says cores (held_rows n c d t) (held_rows_many c d t n so_far.held)

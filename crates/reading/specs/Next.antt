@@ -1,6 +1,7 @@
 -- One record behind kind 1 as the code takes it: a row to go on with, the end of the table, or a refusal.
 use Rattle.std.specs.Prelude.{◌≡◌, ℕ, ◌+◌, ◌-◌, ◌≤◌, ◌<◌, List, [], ◌∷◌, ◌++◌, length, drop, Result, Ok, Err, Option, Some, None}
 use Rattle.answers.specs.declared.Refusal.{Refusal}
+use Rattle.answers.specs.Answer.{Answer}
 use Rattle.theory.specs.Row.{Row}
 use Rattle.rows.specs.declared.Row.{Row as HeldRow}
 use Rattle.rows.specs.Values.{row_of}
@@ -8,16 +9,16 @@ use Rattle.records.specs.Reading.{Reading, table, read_count, read_rows}
 use Rattle.reading.specs.Read.{refused_by}
 
 -- the reading that ends with an answer behind some rows: the table where it is accepted, else the refusal
-abbrev pub ended_with : Result (Unit {0}) Refusal → ℕ → List Row → Reading
+abbrev pub ended_with : Answer → ℕ → List Row → Reading
 ended_with (Ok accepted) cores rows = table (record { cores = cores; rows = rows })
 ended_with (Err refusal) cores rows = refused_by refusal
 
 -- the answer to the body of a kind 4 record, behind any n rows
-abbrev pub IsCount : List ℕ → ℕ → Result (Unit {0}) Refusal → Type 0
+abbrev pub IsCount : List ℕ → ℕ → Answer → Type 0
 IsCount body n answer = (cores : ℕ) (rows : List Row) → length rows ≡ n → read_count cores rows body ≡ ended_with answer cores rows
 
 -- the first of some records, behind any n rows, ends the reading with an answer
-abbrev pub Ends : List ℕ → ℕ → Result (Unit {0}) Refusal → Type 0
+abbrev pub Ends : List ℕ → ℕ → Answer → Type 0
 Ends records n answer = (cores : ℕ) (rows : List Row) → length rows ≡ n → read_rows (24 - n) cores rows records ≡ ended_with answer cores rows
 
 -- the first of some records, behind any n rows, is one more row, and reading goes on with it

@@ -8,11 +8,11 @@ ghost use Rattle.placement.specs.Choice.{allowance_fit};
 ghost use Rattle.listing.specs.Listing.{refusal};
 ghost use Rattle.service.specs.Table.{TableAnswered, Listed, ListingAnswered};
 
-use answers::Refusal;
+use answers::{Answer, Refusal};
 use arrayvec::ArrayVec;
 
 // The table service.
-pub fn table_service(table: &[u8], report: &mut [u8]) -> Result<(), Refusal>
+pub fn table_service(table: &[u8], report: &mut [u8]) -> Answer
     ensures { TableAnswered allowance_fit table.now report.old (returned_by result) report.new }
 {
     let read = reading::read_table(table)?;
