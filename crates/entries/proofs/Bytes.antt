@@ -17,7 +17,7 @@ use Rattle.records.specs.ListBytes.{numbers_in, bytes_of, Fours, BytesAnswered, 
 use Rattle.records.proofs.Number.{AllBelow, all_below_drop}
 use Rattle.records.proofs.ListBytes.{number_first, kept}
 use Rattle.entries.specs.declared.lists.Lists.{Lists}
-use Rattle.entries.specs.Lists.{IsRead, no_rows, as_lists, AnsweredInBytes, RowBytes}
+use Rattle.entries.specs.Lists.{AreLists, no_rows, as_lists, AnsweredInBytes, RowBytes}
 use Rattle.entries.proofs.RowBytes.{no_rows_because}
 use Rattle.entries.proofs.Cut.{CutAnswered, refused_alike, accepted_alike}
 
@@ -42,10 +42,10 @@ module _ {Allowance : List Row → ℕ → ℕ → Type 0} {cs ds ts responses a
       → BytesAnswered Allowance cs ds ts responses allowances returns responses-after allowances-after
   in_bytes_answered fours bytes = rw (bytes.responses_are, bytes.allowances_are) (as_numbers returns bytes.Rs bytes.As fours bytes.answered)
 
-  pub read_answered : {lists : Lists} → IsRead cs ds ts (Ok lists)
+  pub read_answered : {lists : Lists} → AreLists cs ds ts (Ok lists)
       → AnsweredInBytes Allowance (take lists.n lists.c) (take lists.n lists.d) (take lists.n lists.t) responses allowances returns responses-after allowances-after
       → BytesAnswered Allowance cs ds ts responses allowances returns responses-after allowances-after
-  read_answered (as_lists lists fours is_c is_d is_t) bytes = in_bytes_answered fours (rw (is_c, is_d, is_t) at bytes)
+  read_answered (as_lists lists some fours is_c is_d is_t) bytes = in_bytes_answered fours (rw (is_c, is_d, is_t) at bytes)
 
 module _
     {Allowance : List Row → ℕ → ℕ → Type 0}
@@ -68,7 +68,7 @@ module _
   no_rows_answered cs ds ts none =
       ⊎_elim not_fours (λ whole. in_bytes_answered whole.0 (refused_in_bytes (rows_out_of_range whole.1))) (no_rows_because cs ds ts none)
 
-  pub unread_answered : {cs ds ts : List ℕ} {refusal : Refusal} → IsRead cs ds ts (Err refusal) → BytesAnswered Allowance cs ds ts responses allowances (refused_with refusal) responses allowances
+  pub unread_answered : {cs ds ts : List ℕ} {refusal : Refusal} → AreLists cs ds ts (Err refusal) → BytesAnswered Allowance cs ds ts responses allowances (refused_with refusal) responses allowances
   unread_answered {cs} {ds} {ts} (no_rows none) = no_rows_answered cs ds ts none
 
   -- the service's result on answer lists that are cut to 24 numbers

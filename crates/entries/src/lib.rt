@@ -8,7 +8,7 @@ ghost use Rattle.answers.specs.Answer.{returned_by, number_of, row_of};
 ghost use Rattle.records.specs.ListBytes.{BytesAnswered};
 ghost use Rattle.records.specs.ExplanationBytes.{BytesExplained};
 ghost use Rattle.sets.specs.Stages.{limiting_of, point_of};
-ghost use Rattle.entries.specs.Lists.{IsRead, AnsweredInBytes};
+ghost use Rattle.entries.specs.Lists.{AreLists, AnsweredInBytes};
 ghost use Rattle.entries.specs.Entry.{TableReturned, ListsReturned, SetReturned, PointReturned, ListingReturned, WhyReturned, TextReturned, TextTableReturned};
 
 mod lists;
@@ -99,7 +99,7 @@ fn entry_written(written: Result<usize, Refusal>) -> EntryWritten
 
 // The numbers of three byte strings that are lists of one length, 1 to 24 numbers of four bytes; others are refused before a number is read.
 fn read_lists(c: &[u8], d: &[u8], t: &[u8]) -> Result<Lists, Refusal>
-    ensures { IsRead c.now d.now t.now result }
+    ensures { AreLists c.now d.now t.now result }
 {
     let bytes = c.len();
     if bytes % 4 != 0 || d.len() != bytes || t.len() != bytes || bytes < 4 || 96 < bytes {

@@ -27,7 +27,7 @@ use Rattle.points.proofs.Walked.{points_of_rivals}
 use Rattle.raises.proofs.RaisedRow.{Counted}
 use Rattle.trials.specs.Trial.{counted_by}
 use Rattle.trials.proofs.SetByRank.{in_set, small_by_rank, counted, touched_from, in_rows_at}
-use Rattle.reasons.specs.Reason.{walk_from, load_with, points_at, PointWith, PointsByRank, LimitedAt}
+use Rattle.reasons.specs.Reason.{walk_from, load_with_raised, points_at, PointWith, PointsByRank, LimitedAt}
 
 module _ {cs ds ts executions deadlines periods : List ℕ} (stand : StandByRank cs ds ts executions deadlines periods) where
   abbrev rows : List Row
@@ -74,7 +74,7 @@ module _ {cs ds ts executions deadlines periods : List ℕ} (stand : StandByRank
 
   module _ (p : ℕ) (inside : p < length cs) where
     -- the load by rank is the row's
-    same_load : (j : ℕ) → p ≤ j → j < length cs → (a q : ℕ) → Memᴰ q (points_at deadlines periods j) → load_with executions periods p j a q ≡ load rows (at j) q + a * times rows (at j) (at p) q
+    same_load : (j : ℕ) → p ≤ j → j < length cs → (a q : ℕ) → Memᴰ q (points_at deadlines periods j) → load_with_raised executions periods p j a q ≡ load rows (at j) q + a * times rows (at j) (at p) q
     same_load j from h a q m =
         let c : Counted rows (at j) (at p) (get_or executions j 0) (take j executions) (take j periods) (counted_by periods p j) = counted stand p inside j from h in
         ap₂ (λ (asked jobs : ℕ). asked + a * jobs) (ap (λ (f : ℕ → ℕ). f q) c.is_load) (sym (c.as_often q (from_one j h q m) (by_million j h q m)))

@@ -14,7 +14,7 @@ use Rattle.trials.specs.Trial.{counted_by}
 use Rattle.trials.proofs.Search.{counts_itself_once, counts_by_period}
 use Rattle.reasons.specs.declared.Reach.{Reach}
 use Rattle.reasons.specs.declared.Limit.{Limit}
-use Rattle.reasons.specs.Reason.{LeastWithRoom, ReachedAt, Reached, load_with, points_at, PointWith, PointsByRank, IsMost, LimitedAt}
+use Rattle.reasons.specs.Reason.{LeastWithRoom, ReachedAt, Reached, load_with_raised, points_at, PointWith, PointsByRank, IsMost, LimitedAt}
 
 module _ (cs ds ts : List ℕ) (p : ℕ) where
   -- of the rows from place p to before place j, one limits the row at place p: each has room for the smallest raise, those before it for more, and it for no more
@@ -24,7 +24,7 @@ module _ (cs ds ts : List ℕ) (p : ℕ) where
     pub each_has_room : (q : ℕ) → p ≤ q → q < j → PointWith cs ds ts p q smallest
     pub above_have_more : (q : ℕ) → p ≤ q → q < row → PointWith cs ds ts p q (suc smallest)
     pub no_more : PointWith cs ds ts p row (suc smallest) → ⊥
-    pub least_point : LeastWithRoom (load_with cs ts p row smallest) (points_at ds ts row) point
+    pub least_point : LeastWithRoom (load_with_raised cs ts p row smallest) (points_at ds ts row) point
 
   -- none does yet: each has room for more than is in question
   pub record NotYet (smallest j : ℕ) : Type 0 where
@@ -69,11 +69,11 @@ module _ (cs ds ts : List ℕ) (p : ℕ) where
         go (inr d) = rw (counts_by_period ts p j d) (omega (arith, rows.by_period p inside), rows.small.period_positive p inside, rows.small.by_million p inside)
 
     -- each row has a point, so something is reached
-    pub something_reached : (smallest j : ℕ) → j < length cs → (reach : Option Reach) → Reached (load_with cs ts p j) (points_at ds ts j) smallest reach → IsSome reach
+    pub something_reached : (smallest j : ℕ) → j < length cs → (reach : Option Reach) → Reached (load_with_raised cs ts p j) (points_at ds ts j) smallest reach → IsSome reach
     something_reached smallest j more (Some reach) reached = refl
     something_reached smallest j more None none = let q = rows.have_points p j more in absurd (none q.point q.among_points q.room)
 
-    module _ {smallest : ℕ} {limit : Option Limit} {j : ℕ} (so_far : Searched smallest limit j) (more : j < length cs) {raise point : ℕ} (reached : ReachedAt (load_with cs ts p j) (points_at ds ts j) smallest raise point) where
+    module _ {smallest : ℕ} {limit : Option Limit} {j : ℕ} (so_far : Searched smallest limit j) (more : j < length cs) {raise point : ℕ} (reached : ReachedAt (load_with_raised cs ts p j) (points_at ds ts j) smallest raise point) where
       -- a point has room for what is reached
       at_reach : PointWith cs ds ts p j raise
       at_reach = record { point = point; among_points = reached.among_points; room = reached.room }

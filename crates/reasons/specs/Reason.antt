@@ -49,8 +49,8 @@ Reached load points enough (Some reach) = ReachedAt load points enough reach.rai
 Reached load points enough None = (q : ℕ) → Memᴰ q points → load 0 q ≤ q → ⊥
 
 -- the load of the row at place j with a more in the row at place p
-abbrev pub load_with : List ℕ → List ℕ → ℕ → ℕ → ℕ → ℕ → ℕ
-load_with cs ts p j = raised_load (get_or cs j 0) (take j cs) (take j ts) (counted_by ts p j)
+abbrev pub load_with_raised : List ℕ → List ℕ → ℕ → ℕ → ℕ → ℕ → ℕ
+load_with_raised cs ts p j = raised_load (get_or cs j 0) (take j cs) (take j ts) (counted_by ts p j)
 
 -- the points of the row at place j
 abbrev pub points_at : List ℕ → List ℕ → ℕ → List ℕ
@@ -60,7 +60,7 @@ points_at ds ts j = walk_from (take j ts) (get_or ds j 0)
 pub record PointWith (cs ds ts : List ℕ) (p j a : ℕ) : Type 0 where
   pub point : ℕ
   pub among_points : Memᴰ point (points_at ds ts j)
-  pub room : load_with cs ts p j a point ≤ point
+  pub room : load_with_raised cs ts p j a point ≤ point
 
 -- rows by rank, within the limits, each with a point of non-negative slack
 pub record PointsByRank (cs ds ts : List ℕ) : Type 0 where
@@ -85,4 +85,4 @@ pub record LimitedAt (cs ds ts : List ℕ) (p row point : ℕ) : Type 0 where
   pub each_has_room : (q : ℕ) → p ≤ q → q < length cs → PointWith cs ds ts p q allowance
   pub above_have_more : (q : ℕ) → p ≤ q → q < row → PointWith cs ds ts p q (suc allowance)
   pub no_more : PointWith cs ds ts p row (suc allowance) → ⊥
-  pub least_point : LeastWithRoom (load_with cs ts p row allowance) (points_at ds ts row) point
+  pub least_point : LeastWithRoom (load_with_raised cs ts p row allowance) (points_at ds ts row) point

@@ -6,7 +6,7 @@ ghost use Rattle.theory.specs.Allowance.{IsAllowance};
 ghost use Rattle.rows.specs.Values.{rows_in};
 ghost use Rattle.climbs.specs.Ranking.{InRankOrder};
 ghost use Rattle.trials.specs.Trial.{counted_by, IsAllowanceAt};
-ghost use Rattle.trials.specs.Set.{AreByRank};
+ghost use Rattle.trials.specs.Set.{AreTimedByRank};
 
 mod by_rank;
 
@@ -53,7 +53,7 @@ pub fn responses_by_rank(timed: &Timed) -> [u32; 24]
 pub fn ranked<'a>(timed: &'a Timed, response: &'a [u32; 24]) -> ByRank<'a>
     requires by_rank { InRankOrder timed.now.set.rows.d.now timed.now.response (take (length timed.now.set.rows.d.now) response.now) }
     requires long { length response.now ≡ 24 }
-    ensures { AreByRank timed.now.set.rows timed.now.response result }
+    ensures { AreTimedByRank timed.now.set.rows timed.now.response result }
 {
     let rows = timed.set.by_rank();
     ByRank {

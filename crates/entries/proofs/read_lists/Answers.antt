@@ -15,6 +15,6 @@ returns c =
     let ds = c.read_numbers-ds in
     let ts = c.read_numbers-ts in
     let rows = rows_of_lengths c.args.c.now c.args.d.now c.args.t.now (record { fours = omega arith; as_many_deadlines = omega arith; as_many_periods = omega arith; some_row = omega arith; no_25th = omega arith }) in
-    as_lists _ rows.fours c.read_numbers-cs.ensures.result_value
+    as_lists _ (omega arith) rows.fours c.read_numbers-cs.ensures.result_value
     (ap (λ (bytes : ℕ). take (bytes / 4) ds.result) (sym c.if-d-bytes.false) ∙ ds.ensures.result_value)
     (ap (λ (bytes : ℕ). take (bytes / 4) ts.result) (sym c.if-t-bytes.false) ∙ ts.ensures.result_value)

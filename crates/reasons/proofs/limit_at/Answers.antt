@@ -1,12 +1,12 @@
 use mathlib.Core.Path.{◌≡◌, refl, subst}
 use Rattle.reasons.specs.declared.Limit.{Limit}
-use Rattle.reasons.specs.Reason.{Reached, load_with, points_at, LimitedAt}
+use Rattle.reasons.specs.Reason.{Reached, load_with_raised, points_at, LimitedAt}
 use Rattle.reasons.proofs.Limiting.{LimitFound, within_period, something_reached, search_lowers, search_stays, search_ends, search_left}
 use Rattle.reasons.proofs.limit_at.Goals.{After-reach_of, Left-loop-j, then-reach-smallest, else-reach-smallest, else-loop-j-test, then-loop-j-test+then-smallest-eq0}
 use Rattle.reasons.proofs.limit_at.Goals as goal
 
 -- how far the row's points reach, on the lists
-reached_at_place : (c : After-reach_of) → Reached (load_with c.args.by_rank.now.c.now c.args.by_rank.now.t.now c.args.p c.loop-j.j) (points_at c.args.by_rank.now.d.now c.args.by_rank.now.t.now c.loop-j.j) c.loop-j.smallest c.reach_of.result
+reached_at_place : (c : After-reach_of) → Reached (load_with_raised c.args.by_rank.now.c.now c.args.by_rank.now.t.now c.args.p c.loop-j.j) (points_at c.args.by_rank.now.d.now c.args.by_rank.now.t.now c.loop-j.j) c.loop-j.smallest c.reach_of.result
 reached_at_place c = rw (c.row_at.ensures.executions_above, c.row_at.ensures.periods_above, c.row_at.ensures.own, c.row_at.ensures.limit, c.counted_by.ensures) at c.reach_of.ensures
 
 -- after the loop the limiting row is found
