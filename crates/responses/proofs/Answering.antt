@@ -14,7 +14,7 @@ use Rattle.rows.specs.Values.{rows_in}
 use Rattle.rows.specs.declared.Rows.{Rows}
 use Rattle.climbs.proofs.InLists.{in_rows, in_lists, ranked, ranked_in_lists, above_before, Ranked, rank_of}
 use Rattle.climbs.proofs.FilledByRank.{FilledByRank, filled_all}
-use Rattle.responses.specs.Verdict.{RespondsInTime}
+use Rattle.responses.specs.InTime.{RespondsInTime}
 
 module _ (rows : Rows) where
   -- the place in the table of the row at a place by rank

@@ -8,7 +8,7 @@ use Rattle.theory.specs.Lists.{rows_of, Shaped}
 use Rattle.rows.specs.Values.{rows_in}
 use Rattle.climbs.proofs.InLists.{in_lists}
 use Rattle.responses.specs.declared.timed.Timed.{Timed}
-use Rattle.responses.specs.Verdict.{RespondsInTime}
+use Rattle.responses.specs.InTime.{RespondsInTime}
 
 pub in_time_meets : {rows : List Row} {responses : List ℕ} {k : ℕ} → RespondsInTime rows responses k → Meets rows k
 in_time_meets {responses = responses} {k = k} r = record { response = get_or responses k 0; is_response = r.is_response; by_deadline = r.by_deadline }

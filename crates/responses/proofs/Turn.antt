@@ -18,7 +18,7 @@ use Rattle.climbs.proofs.InLists.{order_ranked, order_in_lists}
 use Rattle.climbs.proofs.StandByRank.{Following, as_many_by_rank}
 use Rattle.climbs.proofs.FilledByRank.{filled_more}
 use Rattle.climbs.proofs.RowAtRank.{climb_of_row, following_of_row}
-use Rattle.responses.specs.Verdict.{RespondsInTime}
+use Rattle.responses.specs.InTime.{RespondsInTime}
 use Rattle.responses.proofs.Answering.{Answering, answering_stops, answering_ends}
 
 -- the first j rows by rank have their response times, and `before` is that of the last of them

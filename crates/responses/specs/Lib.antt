@@ -1,3 +1,3 @@
 -- The response times of a set, or the row that misses.
+pub mod InTime
 pub mod Verdict
-pub mod Found

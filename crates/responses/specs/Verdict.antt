@@ -1,9 +1,13 @@
--- The response time of a row in a list, by its deadline.
-use Rattle.std.specs.Prelude.{ℕ, ◌≤◌, List, get_or}
-use Rattle.theory.specs.Row.{Row, row_at}
-use Rattle.theory.specs.Response.{IsResponse}
+-- The response time of every row, or the highest-ranked row that misses.
+use Rattle.std.specs.Prelude.{◌≡◌, ℕ, ◌<◌, length, Result, Ok, Err}
+use Rattle.theory.specs.Response.{FirstMiss}
+use Rattle.rows.specs.Values.{rows_in}
+use Rattle.climbs.specs.declared.ranked_set.RankedSet.{RankedSet}
+use Rattle.responses.specs.declared.timed.Timed.{Timed}
+use Rattle.responses.specs.declared.timed.Miss.{Miss}
+use Rattle.responses.specs.InTime.{RespondsInTime}
 
--- a list has at each row's place its response time, which is at most its deadline
-pub record RespondsInTime (rows : List Row) (responses : List ℕ) (k : ℕ) : Type 0 where
-  pub is_response : IsResponse rows k (get_or responses k 0)
-  pub by_deadline : get_or responses k 0 ≤ (row_at rows k).D
+-- what a verdict says of a set
+abbrev pub IsVerdict : RankedSet → Result Timed Miss → Type 0
+IsVerdict set (Ok timed) = (timed.set ≡ set) × ((k : ℕ) → k < length (rows_in set.rows) → RespondsInTime (rows_in set.rows) timed.response k)
+IsVerdict set (Err miss) = FirstMiss (rows_in set.rows) miss.row

@@ -1,7 +1,7 @@
 // The response time of each row of a set, or the highest-ranked row that misses: document 01, "Rank and response time".
 #![tactic(auto)]
 
-ghost use Rattle.responses.specs.Found.{IsVerdict};
+ghost use Rattle.responses.specs.Verdict.{IsVerdict};
 
 mod timed;
 

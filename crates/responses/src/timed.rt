@@ -1,7 +1,7 @@
 // A set whose rows are all on time, with their response times; and the row that misses, where they are not.
 ghost use Rattle.std.specs.Prelude.{◌≡◌, ℕ, ◌<◌, length};
 ghost use Rattle.rows.specs.Values.{rows_in};
-ghost use Rattle.responses.specs.Verdict.{RespondsInTime};
+ghost use Rattle.responses.specs.InTime.{RespondsInTime};
 
 use climbs::RankedSet;
 

@@ -18,7 +18,7 @@ use Rattle.theory.specs.Lists as lists
 use Rattle.rows.specs.declared.Rows.{Rows}
 use Rattle.rows.specs.Values.{rows_in}
 use Rattle.climbs.proofs.InLists.{in_lists, in_rows, front_for_each}
-use Rattle.responses.specs.Verdict.{RespondsInTime}
+use Rattle.responses.specs.InTime.{RespondsInTime}
 use Rattle.climbs.specs.Ranking.{ranking_by}
 use Rattle.responses.proofs.Meeting.{in_time_meets, timed_meet}
 use Rattle.refusals.specs.Checked.{Checked}

@@ -25,7 +25,7 @@ use Rattle.climbs.proofs.StandByRank.{length_by_rank, limits_by_rank, execution_
 use Rattle.climbs.proofs.InLists.{in_rows, in_lists, deadline_of, execution_of, ranked, ranked_in_lists, above_before, ranked_once, Ranked, rank_of}
 use Rattle.climbs.proofs.AtRank.{entry_at_rank}
 use Rattle.raises.proofs.RaisedRow.{Counted, counts_before, counts_itself, raised_meets_has_room, raised_with_room_meets}
-use Rattle.responses.specs.Verdict.{RespondsInTime}
+use Rattle.responses.specs.InTime.{RespondsInTime}
 use Rattle.responses.proofs.Meeting.{all_in_time_meet}
 use Rattle.trials.specs.Trial.{InTimeByRank, counted_by, RoomWith, AllowanceAt}
 use Rattle.trials.proofs.Search.{counts_itself_once, counts_by_period}
