@@ -2,15 +2,14 @@
 #![tactic(auto)]
 
 ghost use Rattle.std.specs.Prelude.{◌≡◌, ◌+◌, ◌*◌, ◌≤◌, [], ◌∷◌, ◌++◌, length};
-ghost use Rattle.theory.specs.Lists.{Shaped, rows_of};
 ghost use Rattle.arrayvec.specs.ArrayVec.{array_vec_len};
-ghost use Rattle.rows.specs.Values.{row_of, figures_of, figures_in};
+ghost use Rattle.rows.specs.Values.{row_of, rows_listed, figures_of, figures_in};
 ghost use Rattle.listing.specs.Listing.{decimal};
 ghost use Rattle.texts.specs.Text.{comma};
 ghost use Rattle.texts.specs.Columns.{certified_line, certified_lines, certified_text};
 
 use arrayvec::ArrayVec;
-use rows::{FigureLists, Figures, Row};
+use rows::{FigureLists, Figures, Row, RowLists};
 
 const HEADER: [u8; 46] = *b"wcet,deadline,period,core,response,allowance\r\n";
 
@@ -49,41 +48,29 @@ fn write_line<const N: usize>(text: &mut ArrayVec<u8, N>, row: Row, figures: Fig
 }
 
 // Writes a line for each row.
-fn write_lines<const N: usize>(
-    text: &mut ArrayVec<u8, N>,
-    c: &[u32],
-    d: &[u32],
-    t: &[u32],
-    figures: &FigureLists,
-)
-    requires shaped { Shaped c.now d.now t.now × (length figures.now.core.now ≡ length c.now) }
-    requires room { array_vec_len text.old + 67 * length c.now ≤ N }
-    ensures value { text.new.items ≡ text.old.items ++ certified_lines (rows_of c.now d.now t.now) (figures_in figures.now) }
-    ensures length { array_vec_len text.new ≤ array_vec_len text.old + 67 * length c.now }
+fn write_lines<const N: usize>(text: &mut ArrayVec<u8, N>, rows: &RowLists, figures: &FigureLists)
+    requires as_many { length figures.now.core.now ≡ length rows.now.c.now }
+    requires room { array_vec_len text.old + 67 * length rows.now.c.now ≤ N }
+    ensures value { text.new.items ≡ text.old.items ++ certified_lines (rows_listed rows.now) (figures_in figures.now) }
+    ensures length { array_vec_len text.new ≤ array_vec_len text.old + 67 * length rows.now.c.now }
 {
-    for i in 0..c.len() {
-        let row = Row {
-            c: c[i],
-            d: d[i],
-            t: t[i],
-        };
-        write_line(text, row, figures.figures_at(i));
+    for i in 0..rows.c.len() {
+        write_line(text, rows.row_at(i), figures.figures_at(i));
     }
 }
 
 // Writes the text of rows with their figures. It takes at most 1654 bytes: 46 for the header, 67 for each of 24 rows.
 pub fn write_text<const N: usize>(
     text: &mut ArrayVec<u8, N>,
-    c: &[u32],
-    d: &[u32],
-    t: &[u32],
+    rows: &RowLists,
     figures: &FigureLists,
 )
-    requires shaped { Shaped c.now d.now t.now × (length figures.now.core.now ≡ length c.now) }
+    requires few { length rows.now.c.now ≤ 24 }
+    requires as_many { length figures.now.core.now ≡ length rows.now.c.now }
     requires room { array_vec_len text.old + 1654 ≤ N }
-    ensures value { text.new.items ≡ text.old.items ++ certified_text (rows_of c.now d.now t.now) (figures_in figures.now) }
+    ensures value { text.new.items ≡ text.old.items ++ certified_text (rows_listed rows.now) (figures_in figures.now) }
     ensures length { array_vec_len text.new ≤ array_vec_len text.old + 1654 }
 {
     lines::write_bytes(text, &HEADER);
-    write_lines(text, c, d, t, figures);
+    write_lines(text, rows, figures);
 }

@@ -6,8 +6,9 @@ use native.Mathlib.Omega.{arith}
 use lib.ListN.{length, get_or, take}
 use lib.Seq.{take_all}
 use Rattle.theory.specs.Row.{Row}
-use Rattle.theory.specs.Lists.{rows_of}
 use Rattle.theory.proofs.RowsOf.{rows_of_length, row_of_lists}
+use Rattle.rows.specs.declared.RowLists.{RowLists}
+use Rattle.rows.specs.Values.{rows_listed}
 use Rattle.placement.specs.Figures.{Figures, figures_from}
 use Rattle.placement.proofs.FiguresFrom.{figures_from_length, figures_from_at}
 use Rattle.records.specs.Number.{four_bytes}
@@ -69,30 +70,27 @@ module _
       → now ≡ written before at (flat_map figures_record all)
   all_written = records_written figures_record 10 ten_bytes all (length cores) one_each
 
--- the row i that three lists have
-abbrev pub row_there : List ℕ → List ℕ → List ℕ → ℕ → Row
-row_there cs ds ts i = record { C = get_or cs i 0; D = get_or ds i 0; T = get_or ts i 0 }
-
-module _ (cs ds ts : List ℕ) (as_many_deadlines : length ds ≡ length cs) (as_many_periods : length ts ≡ length cs) where
+module _ (lists : RowLists) where
   abbrev rows : List Row
-  rows = rows_of cs ds ts
+  rows = rows_listed lists
 
-  rows_each : length rows ≡ length cs
-  rows_each = rows_of_length cs ds ts as_many_deadlines as_many_periods
+  rows_each : length rows ≡ length lists.c.now
+  rows_each = rows_of_length lists.c.now lists.d.now lists.t.now lists.as_many_deadlines lists.as_many_periods
 
   thirteen_bytes : (row : Row) → length (row_record row) ≡ 13
   unfolding four_bytes
   thirteen_bytes row = refl
 
-  pub row_records_length : length (flat_map row_record rows) ≡ 13 * length cs
-  row_records_length = records_of_size row_record 13 thirteen_bytes rows (length cs) rows_each
+  pub row_records_length : length (flat_map row_record rows) ≡ 13 * length lists.c.now
+  row_records_length = records_of_size row_record 13 thirteen_bytes rows (length lists.c.now) rows_each
 
-  pub table_row_written : (before now after : List ℕ) (at i : ℕ) → i < length cs → at ≤ length before
+  pub table_row_written : (before now after : List ℕ) (at i : ℕ) → i < length lists.c.now → at ≤ length before
       → now ≡ written before at (flat_map row_record (take i rows))
-      → after ≡ written now (at + 13 * i) (row_record (row_there cs ds ts i))
+      → after ≡ written now (at + 13 * i) (row_record (record { C = get_or lists.c.now i 0; D = get_or lists.d.now i 0; T = get_or lists.t.now i 0 }))
       → after ≡ written before at (flat_map row_record (take (i + 1) rows))
   table_row_written before now after at i inside fits =
-      record_written row_record 13 thirteen_bytes rows (length cs) rows_each _ _ before now after at i inside fits (row_of_lists cs ds ts as_many_deadlines as_many_periods i)
+      record_written row_record 13 thirteen_bytes rows (length lists.c.now) rows_each _ _ before now after at i inside fits
+      (row_of_lists lists.c.now lists.d.now lists.t.now lists.as_many_deadlines lists.as_many_periods i)
 
-  pub table_rows_written : (before now : List ℕ) (at i : ℕ) → i ≡ length cs → now ≡ written before at (flat_map row_record (take i rows)) → now ≡ written before at (flat_map row_record rows)
-  table_rows_written = records_written row_record 13 thirteen_bytes rows (length cs) rows_each
+  pub table_rows_written : (before now : List ℕ) (at i : ℕ) → i ≡ length lists.c.now → now ≡ written before at (flat_map row_record (take i rows)) → now ≡ written before at (flat_map row_record rows)
+  table_rows_written = records_written row_record 13 thirteen_bytes rows (length lists.c.now) rows_each

@@ -3,13 +3,13 @@
 
 ghost use Rattle.std.specs.Prelude.{◌≡◌, ℕ, ◌+◌, ◌*◌, ◌≤◌, ◌<◌, length, get_or, take, drop};
 ghost use mathlib.Core.List.{[], ◌∷◌, ◌++◌, flat_map};
-ghost use Rattle.theory.specs.Lists.{rows_of, filled};
-ghost use Rattle.rows.specs.Values.{row_of, figures_of, figures_in};
+ghost use Rattle.theory.specs.Lists.{filled};
+ghost use Rattle.rows.specs.Values.{row_of, rows_listed, figures_of, figures_in};
 ghost use Rattle.numbers.specs.Kind.{byte_of};
 ghost use Rattle.records.specs.Report.{row_record, figures_record, table_bytes};
 
 use numbers::Kind;
-use rows::{FigureLists, Figures, Row};
+use rows::{FigureLists, Figures, Row, RowLists};
 
 // Writes a kind and the byte behind it from a place on.
 fn write_kind(report: &mut [u8], at: usize, kind: Kind, byte: u8)
@@ -66,28 +66,23 @@ fn write_row(bytes: &mut [u8], at: usize, row: Row)
 }
 
 // Writes a kind 2 record for each row from place 2 on.
-fn write_rows(bytes: &mut [u8], c: &[u32], d: &[u32], t: &[u32])
-    requires d_len { (length d.now ≡ length c.now) × (length t.now ≡ length c.now) }
-    requires c_in_bounds { 2 + 13 * length c.now ≤ length bytes.old }
-    ensures { bytes.new ≡ take 2 bytes.old ++ flat_map row_record (rows_of c.now d.now t.now) ++ drop (2 + 13 * length c.now) bytes.old }
+fn write_rows(bytes: &mut [u8], rows: &RowLists)
+    requires { 2 + 13 * length rows.now.c.now ≤ length bytes.old }
+    ensures { bytes.new ≡ take 2 bytes.old ++ flat_map row_record (rows_listed rows.now) ++ drop (2 + 13 * length rows.now.c.now) bytes.old }
 {
-    for i in 0..c.len() {
-        let row = Row {
-            c: c[i],
-            d: d[i],
-            t: t[i],
-        };
-        write_row(bytes, 2 + 13 * i, row);
+    for i in 0..rows.c.len() {
+        write_row(bytes, 2 + 13 * i, rows.row_at(i));
     }
 }
 
 // Writes a table: kind 1, a kind 2 for each row, kind 4.
-pub fn write_table(bytes: &mut [u8], cores: usize, c: &[u32], d: &[u32], t: &[u32])
-    requires cores_bound { (cores < 256) × (length c.now ≤ 24) × (length d.now ≡ length c.now) × (length t.now ≡ length c.now) }
-    requires c_in_bounds { 4 + 13 * length c.now ≤ length bytes.old }
-    ensures { bytes.new ≡ filled (table_bytes (record { cores = cores; rows = rows_of c.now d.now t.now })) bytes.old }
+pub fn write_table(bytes: &mut [u8], cores: usize, rows: &RowLists)
+    requires few { (cores < 256) × (length rows.now.c.now ≤ 24) }
+    requires in_bounds { 4 + 13 * length rows.now.c.now ≤ length bytes.old }
+    ensures { bytes.new ≡ filled (table_bytes (record { cores = cores; rows = rows_listed rows.now })) bytes.old }
 {
     write_kind(bytes, 0, Kind::Table, cores as u8);
-    write_rows(bytes, c, d, t);
-    write_kind(bytes, 2 + 13 * c.len(), Kind::End, c.len() as u8);
+    write_rows(bytes, rows);
+    let n = rows.c.len();
+    write_kind(bytes, 2 + 13 * n, Kind::End, n as u8);
 }

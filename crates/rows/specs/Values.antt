@@ -4,6 +4,7 @@ use Rattle.theory.specs.Row.{Row}
 use Rattle.theory.specs.Lists.{rows_of}
 use Rattle.placement.specs.Figures.{Figures, figures_from}
 use Rattle.rows.specs.declared.Row.{Row as HeldRow}
+use Rattle.rows.specs.declared.RowLists.{RowLists}
 use Rattle.rows.specs.declared.Rows.{Rows}
 use Rattle.rows.specs.declared.Figures.{Figures as HeldFigures}
 use Rattle.rows.specs.declared.FigureLists.{FigureLists}
@@ -12,7 +13,11 @@ use Rattle.rows.specs.declared.FigureLists.{FigureLists}
 abbrev pub row_of : HeldRow → Row
 row_of row = record { C = row.c; D = row.d; T = row.t }
 
--- the rows that lists are
+-- the rows that lists are, within the limits or not
+abbrev pub rows_listed : RowLists → List Row
+rows_listed lists = rows_of lists.c.now lists.d.now lists.t.now
+
+-- the rows within the limits that lists are
 abbrev pub rows_in : Rows → List Row
 rows_in rows = rows_of rows.c.now rows.d.now rows.t.now
 

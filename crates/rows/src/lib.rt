@@ -14,6 +14,16 @@ pub struct Row {
     pub t: u32,
 }
 
+// Rows, within the limits or not, as lists of C, D and T of one length.
+#[derive(Clone, Copy)]
+pub struct RowLists<'a> {
+    pub c: &'a [u32],
+    pub d: &'a [u32],
+    pub t: &'a [u32],
+    ghost as_many_deadlines: { length d.now ≡ length c.now },
+    ghost as_many_periods: { length t.now ≡ length c.now },
+}
+
 // Rows within the limits, 1 to 24, as lists of C, D and T.
 #[derive(Clone, Copy)]
 pub struct Rows<'a> {
@@ -42,7 +52,7 @@ pub struct FigureLists<'a> {
     ghost as_many_allowances: { length allowance.now ≡ length core.now },
 }
 
-impl Rows<'_> {
+impl RowLists<'_> {
     // The row at a place.
     pub fn row_at(&self, i: usize) -> Row
         requires { i < length self.now.c.now }
@@ -52,6 +62,21 @@ impl Rows<'_> {
             c: self.c[i],
             d: self.d[i],
             t: self.t[i],
+        }
+    }
+}
+
+impl Rows<'_> {
+    // The rows as lists, whatever their limits.
+    pub fn lists(&self) -> RowLists<'_>
+        ensures c { result.c.now ≡ self.now.c.now }
+        ensures d { result.d.now ≡ self.now.d.now }
+        ensures t { result.t.now ≡ self.now.t.now }
+    {
+        RowLists {
+            c: self.c,
+            d: self.d,
+            t: self.t,
         }
     }
 }

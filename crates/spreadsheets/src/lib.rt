@@ -15,9 +15,8 @@ pub fn text_service(cores: u32, text: &[u8], lent: &mut [u8]) -> Result<usize, R
 {
     let table = parsing::read_text(cores, text)?;
     let certificate = certifying::certificate_of(&table)?;
-    let rows = table.rows();
     let mut columns = ArrayVec::<u8, 1654>::new();
-    columns::write_text(&mut columns, rows.c, rows.d, rows.t, &certificate.figures());
+    columns::write_text(&mut columns, &table.rows().lists(), &certificate.figures());
     let length = columns.len();
     if lent.len() < length {
         return Err(Refusal::OutputTooShort);
@@ -35,7 +34,6 @@ pub fn table_of_text(cores: u32, text: &[u8], lent: &mut [u8]) -> Result<usize, 
     if lent.len() < length {
         return Err(Refusal::OutputTooShort);
     }
-    let rows = table.rows();
-    reports::write_table(lent, table.cores, rows.c, rows.d, rows.t);
+    reports::write_table(lent, table.cores, &table.rows().lists());
     Ok(length)
 }

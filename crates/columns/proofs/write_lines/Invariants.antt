@@ -3,8 +3,7 @@ use mathlib.Core.Path.{◌≡◌}
 use Prim.Native.Nat.{◌+◌, ◌*◌, ◌≤◌}
 use mathlib.Core.List.{◌++◌}
 use Rattle.arrayvec.specs.ArrayVec.{array_vec_len}
-use Rattle.theory.specs.Lists.{rows_of}
-use Rattle.rows.specs.Values.{figures_in}
+use Rattle.rows.specs.Values.{rows_listed, figures_in}
 use Rattle.texts.specs.Columns.{certified_lines}
 use Rattle.columns.proofs.CertifiedLines.{certified_lines_from}
 use Rattle.columns.proofs.write_lines.Given as goal
@@ -12,4 +11,4 @@ use Rattle.columns.proofs.write_lines.Given as goal
 abbrev pub invariant-loop-i : goal.invariant-loop-i
 invariant-loop-i g l =
     (array_vec_len l.text ≤ array_vec_len l.initial.text + 67 * l.i)
-    × (l.text.items ++ certified_lines_from l.c l.d l.t l.figures.core.now l.figures.response.now l.figures.allowance.now l.i ≡ l.initial.text.items ++ certified_lines (rows_of l.c l.d l.t) (figures_in l.figures))
+    × (l.text.items ++ certified_lines_from l.rows.c.now l.rows.d.now l.rows.t.now l.figures.core.now l.figures.response.now l.figures.allowance.now l.i ≡ l.initial.text.items ++ certified_lines (rows_listed l.rows) (figures_in l.figures))

@@ -13,14 +13,11 @@ pub loop-i-preserved : goal.loop-i-preserved
 unfolding four_bytes
 loop-i-preserved c =
     let args = c.args in
-    let pre = c.requires.d_len in
     let row = c.write_row in
-    table_row_written args.c.now args.d.now args.t.now pre.0 pre.1 args.bytes.now c.loop-i.bytes row.new.bytes 2 c.loop-i.i (omega arith) (omega arith) c.loop-i.invariant row.ensures
+    table_row_written args.rows.now args.bytes.now c.loop-i.bytes row.new.bytes 2 c.loop-i.i (omega arith) (omega arith) c.loop-i.invariant (rw c.row_at.ensures at row.ensures)
 
 pub returns : goal.returns
 returns c =
     let args = c.args in
-    let pre = c.requires.d_len in
     let end = c.loop-i in
-    rw (← row_records_length args.c.now args.d.now args.t.now pre.0 pre.1)
-    (table_rows_written args.c.now args.d.now args.t.now pre.0 pre.1 args.bytes.now end.bytes 2 end.i (omega arith) end.invariant)
+    rw (← row_records_length args.rows.now) (table_rows_written args.rows.now args.bytes.now end.bytes 2 end.i (omega arith) end.invariant)

@@ -2,10 +2,10 @@
 use mathlib.Core.Path.{◌≡◌}
 use mathlib.Core.List.{flat_map}
 use lib.ListN.{take}
-use Rattle.theory.specs.Lists.{rows_of}
+use Rattle.rows.specs.Values.{rows_listed}
 use Rattle.records.specs.Report.{row_record}
 use Rattle.numbers.proofs.Written.{written}
 use Rattle.reports.proofs.write_rows.Given as goal
 
 abbrev pub invariant-loop-i : goal.invariant-loop-i
-invariant-loop-i l = l.bytes ≡ written l.initial.bytes 2 (flat_map row_record (take l.i (rows_of l.c l.d l.t)))
+invariant-loop-i l = l.bytes ≡ written l.initial.bytes 2 (flat_map row_record (take l.i (rows_listed l.rows)))

@@ -13,4 +13,4 @@ returns-then-lent-length c = table_too_long c.args.cores c.args.text.now c.args.
 pub returns : goal.returns
 returns c =
     table_put c.args.cores c.args.text.now c.args.lent.now c.in_ok-table.table c.in_ok-table.ensures c.write_table.new.bytes c.if-lent-length.false
-    (rw (c.rows-rows.ensures.c, c.rows-rows.ensures.d, c.rows-rows.ensures.t) at c.write_table.ensures)
+    (rw (c.lists.ensures.c, c.lists.ensures.d, c.lists.ensures.t, c.rows.ensures.c, c.rows.ensures.d, c.rows.ensures.t) at c.write_table.ensures)

@@ -24,15 +24,15 @@ write_text-requires c =
     let given = c.figures.ensures in
     let many = given_many c.in_ok-table.table c.in_ok-certificate.certificate c.figures.result c.in_ok-certificate.ensures given.core given.response given.allowance in
     let table = c.in_ok-table.table in
-    let rows : length c.rows-rows.result.c.now ≡ table.n = rw c.rows-rows.ensures.c (length-take-le table.n table.c (omega arith)) in
+    let rows : length c.lists.result.c.now ≡ table.n = rw (c.lists.ensures.c, c.rows.ensures.c) (length-take-le table.n table.c (omega arith)) in
     let empty : length c.new-columns.result.items ≡ 0 = rw c.new-columns.ensures refl in
-    (omega arith, ((c.rows-rows.result.shaped, many ∙ sym rows), omega (arith, empty)))
+    (omega arith, (omega (arith, rows), (many ∙ sym rows, omega (arith, empty))))
 
 pub returns-then-lent-length : goal.returns-then-lent-length
 returns-then-lent-length c =
     let given = c.figures.ensures in
     let certified = given_certified c.in_ok-table.table c.in_ok-certificate.certificate c.figures.result c.in_ok-certificate.ensures given.core given.response given.allowance in
-    let sheet = rw (c.new-columns.ensures, c.rows-rows.ensures.c, c.rows-rows.ensures.d, c.rows-rows.ensures.t) at c.write_text.ensures.value in
+    let sheet = rw (c.new-columns.ensures, c.lists.ensures.c, c.lists.ensures.d, c.lists.ensures.t, c.rows.ensures.c, c.rows.ensures.d, c.rows.ensures.t) at c.write_text.ensures.value in
     sheet_too_long c.args.cores c.args.text.now c.args.lent.now c.in_ok-table.table c.in_ok-table.ensures certified c.write_text.new.text.items sheet c.len-length.result c.len-length.ensures.value
     c.if-lent-length.true
 
@@ -40,6 +40,6 @@ pub returns : goal.returns
 returns c =
     let given = c.figures.ensures in
     let certified = given_certified c.in_ok-table.table c.in_ok-certificate.certificate c.figures.result c.in_ok-certificate.ensures given.core given.response given.allowance in
-    let sheet = rw (c.new-columns.ensures, c.rows-rows.ensures.c, c.rows-rows.ensures.d, c.rows-rows.ensures.t) at c.write_text.ensures.value in
+    let sheet = rw (c.new-columns.ensures, c.lists.ensures.c, c.lists.ensures.d, c.lists.ensures.t, c.rows.ensures.c, c.rows.ensures.d, c.rows.ensures.t) at c.write_text.ensures.value in
     sheet_put c.args.cores c.args.text.now c.args.lent.now c.in_ok-table.table c.in_ok-table.ensures certified c.write_text.new.text.items sheet c.len-length.result c.len-length.ensures.value
     c.if-lent-length.false _ (ap (λ (front : List ℕ). front ++ drop c.len-length.result c.args.lent.now) (c.copy_from_slice.ensures.after ∙ c.as_slice.ensures.value))
