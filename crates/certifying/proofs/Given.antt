@@ -7,9 +7,9 @@ use Rattle.placement.specs.Figures.{Certified}
 use Rattle.placement.proofs.FiguresFrom.{figures_from_length}
 use Rattle.rows.specs.declared.FigureLists.{FigureLists}
 use Rattle.rows.specs.Values.{figures_in}
+use Rattle.rows.proofs.Fronts.{many_at_fronts}
 use Rattle.reading.specs.declared.table.Table.{Table}
 use Rattle.reading.specs.Read.{held_table}
-use Rattle.reading.proofs.HeldRows.{held_rows_many}
 use Rattle.certificates.specs.declared.certificate.Certificate.{Certificate}
 use Rattle.certificates.specs.Held.{IsHeld}
 
@@ -25,8 +25,8 @@ module _
   given_certified = rw (core, response, allowance) held
 
   -- one for each row
-  pub given_many : length figures.core.now ≡ of_rows.n
+  pub given_many : length figures.core.now ≡ of_rows.held.n
   given_many =
       sym (figures_from_length figures.core.now figures.response.now figures.allowance.now figures.as_many_responses figures.as_many_allowances)
       ∙ given_certified.are_figures.one_each
-      ∙ held_rows_many of_rows.c of_rows.d of_rows.t of_rows.n of_rows.held
+      ∙ many_at_fronts of_rows.held

@@ -12,5 +12,5 @@ use reading::Table;
 pub fn certificate_of(table: &Table) -> Result<Certificate, Refusal>
     ensures { IsHeld (held_table table.now) result }
 {
-    certificates::certify(table.cores, &table.rows())
+    certificates::certify(table.cores, &table.held.rows())
 }

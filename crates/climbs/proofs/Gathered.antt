@@ -3,7 +3,7 @@ use mathlib.Core.Path.{◌≡◌, sym, ◌∙◌, subst}
 use Prim.Native.Nat.{ℕ, zero, suc, ◌≤◌, ◌<◌}
 use mathlib.Core.List.{List, [], ◌∷◌, map}
 use native.Mathlib.Omega.{arith}
-use lib.ListN.{length, get_or, length-map}
+use lib.ListN.{length, get_or, take, length-map}
 use Rattle.theory.specs.Row.{Row, row_at, AllWithin}
 use Rattle.theory.specs.Gather.{All}
 use Rattle.theory.specs.Lists.{Shaped, rows_of}
@@ -11,9 +11,9 @@ use Rattle.theory.proofs.Each.{all_map}
 use Rattle.theory.proofs.RowsOf.{rows_of_length, rows_of_places}
 use Rattle.rows.specs.Values.{rows_in}
 use Rattle.rows.specs.declared.Rows.{Rows}
+use Rattle.rows.specs.declared.held.HeldRows.{HeldRows}
 use Rattle.climbs.specs.Ranking.{numbers_at}
-use Rattle.climbs.specs.Placed.{AreRowsAt, AreFronts}
-use Rattle.climbs.specs.declared.at_places.RowsAt.{RowsAt}
+use Rattle.climbs.specs.Placed.{AreRowsAt}
 
 -- rows at places keep the limits where all rows do
 within_at_places : (rows : List Row) (places : List ℕ) → AllWithin rows → All (λ h. h < length rows) places → AllWithin (map (row_at rows) places)
@@ -46,11 +46,17 @@ module _ (cs ds ts places : List ℕ) where
         (all_map places (λ h l. omega (arith, l, rows_of_length cs ds ts shaped.as_many_deadlines shaped.as_many_periods)) inside))
 
 -- the rows that are held for places are the set's rows there, as many as places
-module _ (rows : Rows) {places : List ℕ} {held : RowsAt} (at_places : AreRowsAt rows places held) {lists : Rows} (fronts : AreFronts held lists) where
-  pub rows_held : rows_in lists ≡ map (row_at (rows_in rows)) places
-  rows_held =
-      rw (fronts.executions, fronts.deadlines, fronts.periods, at_places.executions, at_places.deadlines, at_places.periods)
+module _
+    (rows : Rows)
+    {places : List ℕ}
+    {held : HeldRows}
+    (at_places : AreRowsAt rows places held)
+    (lists : Rows)
+    (executions : lists.c.now ≡ take held.n held.c) where
+  pub rows_held : lists.d.now ≡ take held.n held.d → lists.t.now ≡ take held.n held.t → rows_in lists ≡ map (row_at (rows_in rows)) places
+  rows_held deadlines periods =
+      rw (executions, deadlines, periods, at_places.executions, at_places.deadlines, at_places.periods)
       (rows_at_places rows.c.now rows.d.now rows.t.now places rows.shaped)
 
   pub many_held : length lists.c.now ≡ length places
-  many_held = rw (fronts.executions, at_places.executions) (length_at places rows.c.now)
+  many_held = rw (executions, at_places.executions) (length_at places rows.c.now)

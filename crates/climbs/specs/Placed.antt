@@ -1,22 +1,16 @@
 -- A set's rows by rank, and a row of them with those above it, as the code's values have them.
 use Rattle.std.specs.Prelude.{◌≡◌, ℕ, List, length, get_or, take}
 use Rattle.rows.specs.declared.Rows.{Rows}
+use Rattle.rows.specs.declared.held.HeldRows.{HeldRows}
 use Rattle.demands.specs.declared.ranked.RankedRow.{RankedRow}
-use Rattle.climbs.specs.declared.at_places.RowsAt.{RowsAt}
 use Rattle.climbs.specs.Ranking.{numbers_at, StandByRank}
 
 -- the rows that are held are those at some places
-pub record AreRowsAt (rows : Rows) (places : List ℕ) (held : RowsAt) : Type 0 where
+pub record AreRowsAt (rows : Rows) (places : List ℕ) (held : HeldRows) : Type 0 where
   pub as_many : held.n ≡ length places
   pub executions : take held.n held.c ≡ numbers_at places rows.c.now
   pub deadlines : take held.n held.d ≡ numbers_at places rows.d.now
   pub periods : take held.n held.t ≡ numbers_at places rows.t.now
-
--- rows are those that are held
-pub record AreFronts (held : RowsAt) (rows : Rows) : Type 0 where
-  pub executions : rows.c.now ≡ take held.n held.c
-  pub deadlines : rows.d.now ≡ take held.n held.d
-  pub periods : rows.t.now ≡ take held.n held.t
 
 -- rows are those of a set, by rank
 abbrev pub AreByRank : Rows → Rows → Type 0

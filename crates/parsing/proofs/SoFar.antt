@@ -17,9 +17,9 @@ use Rattle.theory.specs.Row.{Row, within_limits}
 use Rattle.theory.specs.Lists.{rows_of}
 use Rattle.rows.specs.Values.{row_of}
 use Rattle.records.specs.Reading.{Reading, table, refused}
-use Rattle.reading.specs.Held.{held_rows, Held}
+use Rattle.rows.specs.Held.{held_rows, Held}
 use Rattle.reading.specs.Read.{refused_by}
-use Rattle.reading.proofs.HeldRows.{held_rows_one_more}
+use Rattle.rows.proofs.Fronts.{held_rows_one_more}
 use Rattle.texts.specs.Text.{Text, of_rows, not_of_the_form, lines_of, row_in, with_row, rows_from, text_of}
 use Rattle.texts.specs.Rest.{rest_of_line, lines_behind}
 use Rattle.texts.specs.Table.{judged, table_from, in_rows_place, on_cores, read_text}

@@ -10,7 +10,7 @@ ghost use Rattle.parsing.specs.Judging.{judged_row, judged_table};
 
 use answers::{Answer, Refusal};
 use reading::Table;
-use rows::Row;
+use rows::{HeldRows, Row};
 
 // A line's number in the row's place of an answer.
 fn line_number(line: usize) -> u32
@@ -70,11 +70,9 @@ pub fn read_text(cores: u32, text: &[u8]) -> Result<Table, Refusal>
         rest = line.rest;
     }
     judge_table(cores, n, fault)?;
+    let held = HeldRows { n, c, d, t };
     Ok(Table {
         cores: cores as usize,
-        n,
-        c,
-        d,
-        t,
+        held,
     })
 }

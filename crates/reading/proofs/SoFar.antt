@@ -7,9 +7,9 @@ use Rattle.answers.specs.Answer.{Answer}
 use Rattle.theory.specs.Row.{Row}
 use Rattle.theory.specs.Lists.{rows_of}
 use Rattle.records.specs.Reading.{read_rows}
-use Rattle.reading.specs.Held.{held_rows, Held}
+use Rattle.rows.specs.Held.{held_rows, Held}
 use Rattle.reading.specs.Next.{ended_with, Ends, IsRow}
-use Rattle.reading.proofs.HeldRows.{held_rows_many, held_one_more, held_rows_one_more}
+use Rattle.rows.proofs.Fronts.{held_rows_many, held_one_more, held_rows_one_more}
 
 -- where the reading stands: some records are left to be read, behind the rows held
 pub record SoFar (records : List ℕ) (cores : ℕ) (c d t : List ℕ) (n : ℕ) (rest : List ℕ) : Type 0 where

@@ -4,12 +4,12 @@ use Rattle.answers.specs.declared.Refusal.{Refusal}
 use Rattle.answers.specs.Answer.{refused_with}
 use Rattle.placement.specs.Core.{Table}
 use Rattle.records.specs.Reading.{Reading, table, refused}
+use Rattle.rows.specs.Values.{rows_at_fronts}
 use Rattle.reading.specs.declared.table.Table.{Table as HeldTable}
-use Rattle.reading.specs.Held.{held_rows}
 
 -- the table that is held
 abbrev pub held_table : HeldTable → Table
-held_table read = record { cores = read.cores; rows = held_rows read.n read.c read.d read.t }
+held_table read = record { cores = read.cores; rows = rows_at_fronts read.held }
 
 -- the refusal that the code's stands for
 abbrev pub refused_by : Refusal → Reading

@@ -9,7 +9,7 @@ ghost use Rattle.reading.specs.Read.{IsRead};
 
 use answers::{Answer, Refusal};
 use numbers::Kind;
-use rows::Row;
+use rows::{HeldRows, Row};
 
 mod table;
 
@@ -102,7 +102,8 @@ fn read_rows(records: &[u8], cores: usize) -> Result<Table, Refusal>
         n += 1;
         rest = &rest[13..];
     }
-    Ok(Table { cores, n, c, d, t })
+    let held = HeldRows { n, c, d, t };
+    Ok(Table { cores, held })
 }
 
 // Reads a table.

@@ -3,9 +3,11 @@ use Rattle.std.specs.Prelude.{List}
 use Rattle.theory.specs.Row.{Row}
 use Rattle.theory.specs.Lists.{rows_of}
 use Rattle.placement.specs.Figures.{Figures, figures_from}
+use Rattle.rows.specs.Held.{held_rows}
 use Rattle.rows.specs.declared.Row.{Row as HeldRow}
 use Rattle.rows.specs.declared.RowLists.{RowLists}
 use Rattle.rows.specs.declared.Rows.{Rows}
+use Rattle.rows.specs.declared.held.HeldRows.{HeldRows}
 use Rattle.rows.specs.declared.Figures.{Figures as HeldFigures}
 use Rattle.rows.specs.declared.FigureLists.{FigureLists}
 
@@ -20,6 +22,10 @@ rows_listed lists = rows_of lists.c.now lists.d.now lists.t.now
 -- the rows within the limits that lists are
 abbrev pub rows_in : Rows → List Row
 rows_in rows = rows_of rows.c.now rows.d.now rows.t.now
+
+-- the rows at the fronts of the arrays that hold them
+abbrev pub rows_at_fronts : HeldRows → List Row
+rows_at_fronts held = held_rows held.n held.c held.d held.t
 
 -- the figures that a value is
 abbrev pub figures_of : HeldFigures → Figures

@@ -6,6 +6,10 @@ ghost use Rattle.std.specs.Prelude.{◌≡◌, ◌<◌, length, get_or};
 ghost use Rattle.theory.specs.Row.{AllWithin};
 ghost use Rattle.theory.specs.Lists.{Shaped, rows_of};
 
+mod held;
+
+pub use held::HeldRows;
+
 // A row, within the limits or not.
 #[derive(Clone, Copy)]
 pub struct Row {

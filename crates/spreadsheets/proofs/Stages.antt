@@ -17,7 +17,7 @@ use Rattle.texts.specs.Table.{read_text}
 use Rattle.texts.specs.Columns.{certified_text}
 use Rattle.reading.specs.declared.table.Table.{Table}
 use Rattle.reading.specs.Read.{held_table, IsRead}
-use Rattle.reading.proofs.HeldRows.{held_rows_many}
+use Rattle.rows.proofs.Fronts.{many_at_fronts}
 use Rattle.certificates.specs.Held.{IsHeld}
 use Rattle.service.specs.Text.{TextAnswered, TextTabled}
 
@@ -35,14 +35,14 @@ module _ (cores : ℕ) (text lent : List ℕ) (table : Table) (read : IsRead (re
     sheet_put fits after put = rw (put, as_long, is_sheet) (TextAnswered.accepted (held_table table) all read certified (omega (arith, ap length is_sheet)))
 
   -- the table's bytes, 4 and 13 for each row
-  bytes_long : length (table_bytes (held_table table)) ≡ 4 + 13 * table.n
-  bytes_long = table_bytes_length (held_table table) ∙ ap (λ (n : ℕ). 4 + 13 * n) (held_rows_many table.c table.d table.t table.n table.held)
+  bytes_long : length (table_bytes (held_table table)) ≡ 4 + 13 * table.held.n
+  bytes_long = table_bytes_length (held_table table) ∙ ap (λ (n : ℕ). 4 + 13 * n) (many_at_fronts table.held)
 
-  pub table_too_long : length lent < 4 + 13 * table.n → TextTabled cores text lent (returned 7 0) 0 lent
+  pub table_too_long : length lent < 4 + 13 * table.held.n → TextTabled cores text lent (returned 7 0) 0 lent
   table_too_long short = TextTabled.output_too_short (held_table table) read (omega (arith, bytes_long))
 
-  pub table_put : (after : List ℕ) → 4 + 13 * table.n ≤ length lent → after ≡ filled (table_bytes (held_table table)) lent → TextTabled cores text lent (returned 0 0) (4 + 13 * table.n) after
+  pub table_put : (after : List ℕ) → 4 + 13 * table.held.n ≤ length lent → after ≡ filled (table_bytes (held_table table)) lent → TextTabled cores text lent (returned 0 0) (4 + 13 * table.held.n) after
   table_put after fits put =
-      subst (λ (bytes : List ℕ). TextTabled cores text lent (returned 0 0) (4 + 13 * table.n) bytes) (sym put)
+      subst (λ (bytes : List ℕ). TextTabled cores text lent (returned 0 0) (4 + 13 * table.held.n) bytes) (sym put)
       (subst (λ (k : ℕ). TextTabled cores text lent (returned 0 0) k (filled (table_bytes (held_table table)) lent)) bytes_long
       (TextTabled.accepted (held_table table) read (omega (arith, bytes_long))))

@@ -16,7 +16,11 @@ pub fn text_service(cores: u32, text: &[u8], lent: &mut [u8]) -> Result<usize, R
     let table = parsing::read_text(cores, text)?;
     let certificate = certifying::certificate_of(&table)?;
     let mut columns = ArrayVec::<u8, 1654>::new();
-    columns::write_text(&mut columns, &table.rows().lists(), &certificate.figures());
+    columns::write_text(
+        &mut columns,
+        &table.held.rows().lists(),
+        &certificate.figures(),
+    );
     let length = columns.len();
     if lent.len() < length {
         return Err(Refusal::OutputTooShort);
@@ -30,10 +34,10 @@ pub fn table_of_text(cores: u32, text: &[u8], lent: &mut [u8]) -> Result<usize, 
     ensures { TextTabled cores text.now lent.old (returned_by result) (result_unwrap_or result 0) lent.new }
 {
     let table = parsing::read_text(cores, text)?;
-    let length = 4 + 13 * table.n;
+    let length = 4 + 13 * table.held.n;
     if lent.len() < length {
         return Err(Refusal::OutputTooShort);
     }
-    reports::write_table(lent, table.cores, &table.rows().lists());
+    reports::write_table(lent, table.cores, &table.held.rows().lists());
     Ok(length)
 }

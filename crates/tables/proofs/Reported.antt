@@ -20,7 +20,7 @@ use Rattle.records.specs.Report.{figures_record, count_record, table_records, ta
 use Rattle.records.proofs.Number.{AllBelow}
 use Rattle.reading.specs.declared.table.Table.{Table}
 use Rattle.reading.specs.Read.{held_table}
-use Rattle.reading.proofs.HeldRows.{held_rows_many}
+use Rattle.rows.proofs.Fronts.{many_at_fronts}
 use Rattle.certificates.specs.declared.certificate.Certificate.{Certificate}
 use Rattle.certificates.specs.Held.{IsHeld}
 use Rattle.certifying.proofs.Given.{given_certified, given_many}
@@ -69,21 +69,21 @@ module _
   certified : Certified allowance_fit (held_table of_rows) (figures_in figures)
   certified = given_certified of_rows certificate figures held core response allowance
 
-  many_given : length figures.core.now ≡ of_rows.n
+  many_given : length figures.core.now ≡ of_rows.held.n
   many_given = given_many of_rows certificate figures held core response allowance
 
   -- the core's number is a byte
   pub given_bytes : (i : ℕ) → i < length figures.core.now → get_or figures.core.now i 0 < 256
   given_bytes =
-      core_is_byte (held_table of_rows) figures.core.now figures.response.now figures.allowance.now of_rows.within.no_9th_core
-      (many_given ∙ sym (held_rows_many of_rows.c of_rows.d of_rows.t of_rows.n of_rows.held)) figures.as_many_responses figures.as_many_allowances certified
+      core_is_byte (held_table of_rows) figures.core.now figures.response.now figures.allowance.now of_rows.no_9th_core
+      (many_given ∙ sym (many_at_fronts of_rows.held)) figures.as_many_responses figures.as_many_allowances certified
 
   -- put behind the table's records, with kind 4 behind them, they are the report
-  pub report_put : (bytes report after : List ℕ) → AllBelow 256 bytes → read_table bytes ≡ table (held_table of_rows) → 4 + 23 * of_rows.n ≤ length report
-      → after ≡ filled (take (2 + 13 * of_rows.n) bytes ++ (flat_map figures_record (figures_in figures) ++ (4 ∷ length figures.core.now ∷ []))) report
+  pub report_put : (bytes report after : List ℕ) → AllBelow 256 bytes → read_table bytes ≡ table (held_table of_rows) → 4 + 23 * of_rows.held.n ≤ length report
+      → after ≡ filled (take (2 + 13 * of_rows.held.n) bytes ++ (flat_map figures_record (figures_in figures) ++ (4 ∷ length figures.core.now ∷ []))) report
       → TableAnswered allowance_fit bytes report (returned 0 0) after
   report_put bytes report after below reads long put =
-      let many = held_rows_many of_rows.c of_rows.d of_rows.t of_rows.n of_rows.held in
+      let many = many_at_fronts of_rows.held in
       let all = figures_in figures in
-      rw (put, many_given, report_of_records bytes (held_table of_rows) all of_rows.n below reads many)
+      rw (put, many_given, report_of_records bytes (held_table of_rows) all of_rows.held.n below reads many)
       (TableAnswered.accepted (held_table of_rows) all reads (omega (arith, many)) certified)

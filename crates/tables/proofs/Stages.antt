@@ -10,15 +10,15 @@ use Rattle.placement.specs.Choice.{allowance_fit}
 use Rattle.records.specs.Reading.{read_table}
 use Rattle.reading.specs.declared.table.Table.{Table}
 use Rattle.reading.specs.Read.{held_table, IsRead}
-use Rattle.reading.proofs.HeldRows.{held_rows_many}
+use Rattle.rows.proofs.Fronts.{many_at_fronts}
 use Rattle.certificates.specs.Held.{IsHeld}
 use Rattle.listing.specs.Listing.{refusal}
 use Rattle.service.specs.Table.{TableAnswered, Listed}
 
-pub refusal_answered : {bytes report : List ℕ} (table : Table) {refused : Refusal} → IsRead (read_table bytes) (Ok table) → 4 + 23 * table.n ≤ length report → IsHeld (held_table table) (Err refused)
+pub refusal_answered : {bytes report : List ℕ} (table : Table) {refused : Refusal} → IsRead (read_table bytes) (Ok table) → 4 + 23 * table.held.n ≤ length report → IsHeld (held_table table) (Err refused)
     → TableAnswered allowance_fit bytes report (refused_with refused) report
 refusal_answered table read long (i, is, stop) =
-    rw is (TableAnswered.no_core_takes_it (held_table table) i read (omega (arith, held_rows_many table.c table.d table.t table.n table.held)) stop)
+    rw is (TableAnswered.no_core_takes_it (held_table table) i read (omega (arith, many_at_fronts table.held)) stop)
 
 pub refusal_listed : {bytes : List ℕ} (table : Table) {refused : Refusal} → IsRead (read_table bytes) (Ok table) → IsHeld (held_table table) (Err refused)
     → Listed allowance_fit bytes (refusal (refused_with refused).number (refused_with refused).row)

@@ -16,7 +16,7 @@ pub fn table_service(table: &[u8], report: &mut [u8]) -> Answer
     ensures { TableAnswered allowance_fit table.now report.old (returned_by result) report.new }
 {
     let read = reading::read_table(table)?;
-    let n = read.n;
+    let n = read.held.n;
     if report.len() < 4 + 23 * n {
         return Err(Refusal::OutputTooShort);
     }

@@ -10,13 +10,13 @@ returns-then-is_empty c = none_figured _ _ _ _ (search rules)
 
 pub write_core-requires : goal.write_core-requires
 write_core-requires c = record {
-  all_meet = rw (rows_held c.args.rows.now c.rows_at-on_core.ensures c.rows.ensures) c.requires.all_meet;
+  all_meet = rw (rows_held c.args.rows.now c.rows_at-on_core.ensures c.rows.result c.rows.ensures.c c.rows.ensures.d c.rows.ensures.t) c.requires.all_meet;
   places_len = (
-    sym (many_held c.args.rows.now c.rows_at-on_core.ensures c.rows.ensures),
+    sym (many_held c.args.rows.now c.rows_at-on_core.ensures c.rows.result c.rows.ensures.c),
     rw c.requires.responses_len.0 c.requires.places_len_bound.1,
     rw c.requires.responses_len.1 c.requires.places_len_bound.1,
   );
 }
 
 pub returns : goal.returns
-returns c = figured_same (rows_held c.args.rows.now c.rows_at-on_core.ensures c.rows.ensures) c.write_core.ensures
+returns c = figured_same (rows_held c.args.rows.now c.rows_at-on_core.ensures c.rows.result c.rows.ensures.c c.rows.ensures.d c.rows.ensures.t) c.write_core.ensures

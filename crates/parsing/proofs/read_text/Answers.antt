@@ -1,4 +1,5 @@
 use mathlib.Core.Path.{◌≡◌, refl, sym, ap, subst, ◌∙◌}
+use native.Mathlib.Omega.{arith}
 use mathlib.Core.Bool.{true≢false}
 use mathlib.Core.List.{List}
 use Prim.Native.Nat.{ℕ}
@@ -10,6 +11,7 @@ use Rattle.std.specs.Option.{ok_or}
 use Rattle.std.proofs.lemmas.Result.{err_from_is_err_and}
 use Rattle.answers.specs.declared.Refusal.TheVariants.{LineBroken}
 use Rattle.records.specs.Reading.{refused}
+use Rattle.rows.proofs.Fronts.{held_rows_many}
 use Rattle.texts.proofs.Reading.{read_text_within}
 use Rattle.fields.specs.Found.{IsHeader}
 use Rattle.parsing.proofs.Header.{header_broken}
@@ -57,10 +59,18 @@ returns-in_err-judge_table c =
     let past = eqb-true _ 0 (sym c.is_empty.ensures ∙ c.loop-rest-test.false) in
     rw (p.1, p.2) (ends_refused c.args.text.now c.args.cores c.loop-rest.invariant past c.judge_table.ensures c.in_err-judge_table.was)
 
+pub invariant_of-held : goal.invariant_of-held
+invariant_of-held c =
+    let turn = c.loop-rest in
+    let ended = ends c.args.text.now c.args.cores turn.invariant (eqb-true _ 0 (sym c.is_empty.ensures ∙ c.loop-rest-test.false)) c.judge_table.ensures c.in_ok-judge_table.was in
+    let within = read_text_within c.args.cores c.args.text.now _ ended.0 in
+    record { held = ended.1; some_row = omega (arith, within.some_row, held_rows_many turn.c turn.d turn.t turn.n ended.1); within = within.rows_within }
+
 pub invariant_of-result : goal.invariant_of-result
 invariant_of-result c =
     let ended = ends c.args.text.now c.args.cores c.loop-rest.invariant (eqb-true _ 0 (sym c.is_empty.ensures ∙ c.loop-rest-test.false)) c.judge_table.ensures c.in_ok-judge_table.was in
-    record { held = ended.1; within = read_text_within c.args.cores c.args.text.now _ ended.0 }
+    let within = read_text_within c.args.cores c.args.text.now _ ended.0 in
+    record { some_core = within.some_core; no_9th_core = within.no_9th_core }
 
 pub returns : goal.returns
 returns c = (ends c.args.text.now c.args.cores c.loop-rest.invariant (eqb-true _ 0 (sym c.is_empty.ensures ∙ c.loop-rest-test.false)) c.judge_table.ensures c.in_ok-judge_table.was).0

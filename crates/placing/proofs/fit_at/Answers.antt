@@ -7,4 +7,6 @@ use Rattle.climbs.proofs.Gathered.{rows_held}
 use Rattle.placing.proofs.fit_at.Goals as goal
 
 pub returns : goal.returns
-returns c = subst (λ (rows : List Row). IsFit rows c.fit_of.result) (rows_held c.args.rows.now c.rows_at.ensures c.rows.ensures) c.fit_of.ensures
+returns c =
+    let fronts = c.rows.ensures in
+    subst (λ (rows : List Row). IsFit rows c.fit_of.result) (rows_held c.args.rows.now c.rows_at.ensures c.rows.result fronts.c fronts.d fronts.t) c.fit_of.ensures

@@ -4,6 +4,7 @@ use mathlib.Core.List.{◌∷◌}
 use Rattle.std.specs.Prelude.{Ok, Err}
 use Rattle.std.proofs.lemmas.Result.{err_from_is_err_and}
 use Rattle.rows.specs.Values.{row_of}
+use Rattle.rows.proofs.Fronts.{held_rows_many}
 use Rattle.records.proofs.Reading.{read_table_within}
 use Rattle.reading.proofs.Bytes.{rest_whole}
 use Rattle.reading.proofs.CoresThere.{cores_in_range}
@@ -25,14 +26,15 @@ loop-row-preserved c =
     rw (rest_whole 13 turn.rest.now)
     (goes_on c.args.records.now c.args.cores turn.c turn.d turn.t turn.n turn.rest.now turn.invariant (row_of c.in-Some.row) (rw c.in-Some.is at c.in_ok-row.ensures))
 
-pub invariant_of-result : goal.invariant_of-result
-invariant_of-result c =
+pub invariant_of-held : goal.invariant_of-held
+invariant_of-held c =
     let records = c.args.records.now in
     let cores = c.args.cores in
     let turn = c.loop-row in
     let ended = ends records cores turn.c turn.d turn.t turn.n turn.rest.now turn.invariant (Ok tt) (rw c.in_default.is at c.in_ok-row.ensures) in
     let bytes = 1 ∷ cores ∷ records in
-    record { held = turn.invariant.held; within = read_table_within bytes _ (cores_in_range bytes (omega arith) refl cores refl c.requires.0 c.requires.1 ∙ ended) }
+    let within = read_table_within bytes _ (cores_in_range bytes (omega arith) refl cores refl c.requires.0 c.requires.1 ∙ ended) in
+    record { held = turn.invariant.held; some_row = omega (arith, within.some_row, held_rows_many turn.c turn.d turn.t turn.n turn.invariant.held); within = within.rows_within }
 
 pub returns : goal.returns
 returns c =

@@ -23,8 +23,8 @@ pub write_text-requires : goal.write_text-requires
 write_text-requires c =
     let given = c.figures.ensures in
     let many = given_many c.in_ok-table.table c.in_ok-certificate.certificate c.figures.result c.in_ok-certificate.ensures given.core given.response given.allowance in
-    let table = c.in_ok-table.table in
-    let rows : length c.lists.result.c.now ≡ table.n = rw (c.lists.ensures.c, c.rows.ensures.c) (length-take-le table.n table.c (omega arith)) in
+    let held = c.in_ok-table.table.held in
+    let rows : length c.lists.result.c.now ≡ held.n = rw (c.lists.ensures.c, c.rows.ensures.c) (length-take-le held.n held.c (omega arith)) in
     let empty : length c.new-columns.result.items ≡ 0 = rw c.new-columns.ensures refl in
     (omega arith, (omega (arith, rows), (many ∙ sym rows, omega (arith, empty))))
 

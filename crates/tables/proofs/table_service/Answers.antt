@@ -5,7 +5,7 @@ use lib.ListN.{length-take}
 use lib.Seq.{length-take-le}
 use Rattle.std.proofs.lemmas.Result.{err_from_is_err_and}
 use Rattle.reading.specs.Read.{held_table}
-use Rattle.reading.proofs.HeldRows.{held_rows_many}
+use Rattle.rows.proofs.Fronts.{many_at_fronts}
 use Rattle.certifying.proofs.Given.{given_many}
 use Rattle.service.specs.Table.{TableAnswered}
 use Rattle.tables.proofs.Stages.{refusal_answered}
@@ -18,7 +18,7 @@ returns-in_err-read c = let p = err_from_is_err_and c.from_residual.result c.fro
 pub returns-then-report-n : goal.returns-then-report-n
 returns-then-report-n c =
     let read = c.in_ok-read.read in
-    TableAnswered.output_too_short (held_table read) c.in_ok-read.ensures (omega (arith, held_rows_many read.c read.d read.t read.n read.held))
+    TableAnswered.output_too_short (held_table read) c.in_ok-read.ensures (omega (arith, many_at_fronts read.held))
 
 pub returns-in_err-certificate : goal.returns-in_err-certificate
 returns-in_err-certificate c =
@@ -28,7 +28,7 @@ returns-in_err-certificate c =
 pub slice_bounds-write_report-end : goal.slice_bounds-write_report-end
 slice_bounds-write_report-end c =
     let read = c.in_ok-read.read in
-    let long = table_length c.args.table.now (held_table read) read.n (λ k h. omega (arith, c.type_inv.table k)) c.in_ok-read.ensures (held_rows_many read.c read.d read.t read.n read.held) in
+    let long = table_length c.args.table.now (held_table read) read.held.n (λ k h. omega (arith, c.type_inv.table k)) c.in_ok-read.ensures (many_at_fronts read.held) in
     sym (length-take-le _ _ (omega (arith, long)))
 
 pub write_report-requires-clause-in_bounds : goal.write_report-requires-clause-in_bounds

@@ -9,7 +9,9 @@ use lib.Seq.{take-suc-set, length-take-le}
 use Rattle.theory.specs.Row.{Row}
 use Rattle.theory.specs.Lists.{Shaped, rows_of}
 use Rattle.theory.proofs.RowsOf.{rows_of_length}
-use Rattle.reading.specs.Held.{held_rows, Held}
+use Rattle.rows.specs.Held.{held_rows, Held}
+use Rattle.rows.specs.Values.{rows_at_fronts}
+use Rattle.rows.specs.declared.held.HeldRows.{HeldRows}
 
 -- three lists with one number more are one row more
 pub rows_of_snoc :
@@ -34,9 +36,9 @@ module _ (c d t : List ℕ) (n : ℕ) (held : Held n c d t) where
   held_rows_many = rows_of_length (take n c) (take n d) (take n t) (omega (arith, fronts)) (omega (arith, fronts)) ∙ fronts.0
 
   -- where there is a row, the fronts are lists of rows
-  pub held_shaped : 1 ≤ length (held_rows n c d t) → Shaped (take n c) (take n d) (take n t)
+  pub held_shaped : 1 ≤ n → Shaped (take n c) (take n d) (take n t)
   held_shaped some = record {
-    some_row = omega (arith, some, held_rows_many, fronts);
+    some_row = omega (arith, fronts);
     no_25th = omega (arith, held, fronts);
     as_many_deadlines = omega (arith, fronts);
     as_many_periods = omega (arith, fronts);
@@ -56,3 +58,7 @@ module _ (c d t : List ℕ) (n : ℕ) (held : Held n c d t) where
     held_rows_one_more =
         rw (add-one n, take-suc-set c n execution (omega arith), take-suc-set d n deadline (omega arith), take-suc-set t n period (omega arith))
         (rows_of_snoc (take n c) (take n d) (take n t) execution deadline period (omega (arith, fronts)) (omega (arith, fronts)))
+
+-- as many rows as are counted
+pub many_at_fronts : (held : HeldRows) → length (rows_at_fronts held) ≡ held.n
+many_at_fronts held = held_rows_many held.c held.d held.t held.n held.held

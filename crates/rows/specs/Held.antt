@@ -1,4 +1,4 @@
--- A table in memory as the code holds it: how many rows, and at the front of three arrays of 24 the C, D and T of each row.
+-- Rows in memory as the code holds them: how many, and at the fronts of three arrays of 24 the C, D and T of each.
 use Rattle.std.specs.Prelude.{◌≡◌, ℕ, ◌≤◌, List, length, take}
 use Rattle.theory.specs.Row.{Row}
 use Rattle.theory.specs.Lists.{rows_of}

@@ -1,0 +1,2 @@
+-- Laws of the rows that arrays hold.
+pub mod Fronts
