@@ -1,6 +1,7 @@
 -- The stages of a service on a table, from the numbers that its calls' answers have.
 use mathlib.Core.Path.{◌≡◌, sym, ◌∙◌}
 use Prim.Native.Nat.{ℕ}
+use native.Mathlib.Omega.{arith}
 use Rattle.std.specs.Prelude.{Result, Ok, Err}
 use Rattle.answers.specs.declared.Refusal.{Refusal}
 use Rattle.answers.specs.Answer.{number_of}
@@ -13,11 +14,24 @@ use Rattle.reading.specs.declared.table.Table.{Table as HeldTable}
 use Rattle.reading.specs.Read.{held_table, IsRead}
 use Rattle.certificates.specs.declared.certificate.Certificate.{Certificate}
 use Rattle.certificates.specs.Held.{held_figures, IsHeld}
+use Rattle.rows.proofs.Fronts.{held_rows_many}
 
 -- where it is 0, a table was read that keeps the rules
 pub read_by_number : {reading : Reading} (read : Result HeldTable Refusal) {number : ℕ} → IsRead reading read → number ≡ number_of read → number ≡ 0
     → (held : HeldTable) × (reading ≡ table (held_table held)) × TableWithin (held_table held)
-read_by_number (Ok held) is_read given none = (held, is_read, held.within)
+read_by_number (Ok of_rows) is_read given none =
+    let held = of_rows.held in
+    let many = held_rows_many held.c held.d held.t held.n held.held in (
+      of_rows,
+      is_read,
+      record {
+        some_core = of_rows.some_core;
+        no_9th_core = of_rows.no_9th_core;
+        some_row = omega (arith, many, held.some_row);
+        no_25th_row = omega (arith, many, held.held.no_25th_row);
+        rows_within = held.within;
+      },
+    )
 read_by_number (Err refusal) is_read given none = absurd (number_not_0 refusal (sym given ∙ none))
 
 -- and it is certified

@@ -14,8 +14,8 @@ use Rattle.theory.proofs.Each.{all_map}
 use Rattle.demands.specs.Levels.{load_of, Small}
 use Rattle.rows.specs.declared.Rows.{Rows}
 use Rattle.climbs.specs.Ranking.{ranking_by, InRankOrder, StandByRank}
-use Rattle.climbs.specs.Placed.{AreRowsAt, AreFronts, AreByRank}
-use Rattle.climbs.specs.declared.at_places.RowsAt.{RowsAt}
+use Rattle.climbs.specs.Placed.{AreRowsAt}
+use Rattle.rows.specs.declared.held.HeldRows.{HeldRows}
 use Rattle.climbs.proofs.ByRank.{length_ranking, ranking_inside}
 use Rattle.climbs.proofs.Gathered.{shaped_at, within_at}
 use Rattle.climbs.proofs.Load.{limits_at, small_above}
@@ -28,13 +28,14 @@ pub length_by_rank : (ds xs list : List ℕ) → InRankOrder ds xs list → leng
 length_by_rank ds xs list in_order = ap length in_order ∙ length-map (ranking_by ds) (λ h. get_or xs h 0) ∙ length_ranking ds
 
 -- rows that are gathered at the places by rank stand by rank
-pub gathered_stand : (rows : Rows) {held : RowsAt} {by_rank : Rows} → AreRowsAt rows (ranking_by rows.d.now) held → AreFronts held by_rank → AreByRank rows by_rank
-gathered_stand rows at_places fronts = record {
+pub gathered_stand : (rows : Rows) {held : HeldRows} → AreRowsAt rows (ranking_by rows.d.now) held
+    → StandByRank rows.c.now rows.d.now rows.t.now (take held.n held.c) (take held.n held.d) (take held.n held.t)
+gathered_stand rows at_places = record {
   shaped = rows.shaped;
   within = rows.within;
-  by_C = fronts.executions ∙ at_places.executions;
-  by_D = fronts.deadlines ∙ at_places.deadlines;
-  by_T = fronts.periods ∙ at_places.periods;
+  by_C = at_places.executions;
+  by_D = at_places.deadlines;
+  by_T = at_places.periods;
 }
 
 -- the row before place j responds at r, within a million; r is 0 before the first
