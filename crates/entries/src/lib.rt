@@ -165,7 +165,7 @@ fn answer_bytes<F: FindAllowances>(
     )
 }
 
-// The explanation of a row, with the lists as bytes.
+// The explanation of a row, with the lists as bytes: read as for the list services, and asked of another service.
 fn explain_bytes(c: &[u8], d: &[u8], t: &[u8], row: u32) -> Result<Explanation, Refusal>
     ensures { BytesExplained c.now d.now t.now row (returned_by result) (limiting_of result) (point_of result) }
 {

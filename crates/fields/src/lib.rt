@@ -129,7 +129,7 @@ fn number_then<S: Separator>(text: &[u8]) -> Option<Number<'_>>
     })
 }
 
-// The first field of a text, where a name is wanted and something behind it.
+// The first field of a text, where a name is wanted and something behind it. A name gives no value, and a number is no prefix that is known.
 fn name_then<'a, S: Separator>(text: &'a [u8], name: &[u8]) -> Option<&'a [u8]>
     requires { (0 < length name.now) × All Plain name.now }
     ensures { IsNameThen S.kind name.now text.now (option_copied result) }

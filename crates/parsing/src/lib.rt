@@ -46,7 +46,8 @@ fn judge_table(cores: u32, n: usize, fault: Answer) -> Answer
     fault
 }
 
-// Reads a text as a table on a number of cores. There is at least a byte for each line before those left, so that a line's number is in range.
+// Reads a text as a table on a number of cores. The text tells where its lines end, and rows beyond the 24th are counted too. There is at least a byte for each line
+// before those left, so that a line's number is in range.
 pub fn read_text(cores: u32, text: &[u8]) -> Result<Table, Refusal>
     ensures { IsRead (read_text cores text.now) result }
 {

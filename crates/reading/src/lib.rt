@@ -85,7 +85,7 @@ fn next_record(records: &[u8], n: usize) -> Result<Option<Row>, Refusal>
     }
 }
 
-// Reads the records behind kind 1.
+// Reads the records behind kind 1. The bytes tell where they end, and the rows are a table's only when all are read, so they are counted and held here until then.
 fn read_rows(records: &[u8], cores: usize) -> Result<Table, Refusal>
     requires { (1 ≤ cores) × (cores ≤ 8) }
     ensures { IsRead (read_rows 24 cores [] records.now) result }

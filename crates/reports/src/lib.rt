@@ -65,7 +65,7 @@ fn write_row(bytes: &mut [u8], at: usize, row: Row)
     numbers::put_number(bytes, at + 9, row.t);
 }
 
-// Writes a kind 2 record for each row from place 2 on.
+// Writes a kind 2 record for each row from place 2 on: another record than a row's figures, of another length.
 fn write_rows(bytes: &mut [u8], rows: &RowLists)
     requires { 2 + 13 * length rows.now.c.now ≤ length bytes.old }
     ensures { bytes.new ≡ take 2 bytes.old ++ flat_map row_record (rows_listed rows.now) ++ drop (2 + 13 * length rows.now.c.now) bytes.old }

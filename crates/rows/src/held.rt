@@ -5,7 +5,7 @@ ghost use Rattle.rows.specs.Held.{held_rows, Held};
 
 use crate::Rows;
 
-// n rows within the limits, 1 to 24, their C, D and T at the fronts of three arrays.
+// n rows within the limits, 1 to 24, their C, D and T at the fronts of three arrays: there is no heap.
 #[derive(Clone, Copy)]
 pub struct HeldRows {
     pub n: usize,

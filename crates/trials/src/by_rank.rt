@@ -15,7 +15,7 @@ pub struct ByRank<'a> {
 }
 
 impl ByRank<'_> {
-    // The row at a place, with those before it.
+    // The row at a place, with those before it. As `climbs::row_at` of rows within the limits; these may have a C of 0.
     pub fn row_at(&self, j: usize) -> RankedRow<'_>
         requires { j < length self.now.c.now }
         ensures executions_above { result.c.now ≡ take j self.now.c.now }
