@@ -1,4 +1,4 @@
--- What writes come to, one behind another.
+-- Bytes written behind those that stand at the front of a text, and what such writes come to, one behind another.
 use mathlib.Core.Path.{◌≡◌}
 use Prim.Native.Nat.{ℕ, ◌+◌, ◌^◌, ◌≤◌, ◌<◌}
 use native.Mathlib.Omega.{arith}
@@ -26,24 +26,24 @@ module _ {one two three four : List ℕ} where
   row_written front number figures w x y z = simp (z, y, x, w, append_assoc)
 
   -- the listing
-  pub listing_written : (front : List ℕ) (all : List Figures)
-      → one ≡ front ++ header_line
+  pub listing_written : (all : List Figures)
+      → one ≡ header_line
       → two ≡ one ++ row_lines 1 all
       → three ≡ two ++ ascii "system "
       → four ≡ three ++ (decimal (system_allowance all) ++ (10 ∷ []))
-      → four ≡ front ++ listing all
+      → four ≡ listing all
   unfolding listing
-  listing_written front all w x y z = simp (z, y, x, w, append_assoc)
+  listing_written all w x y z = simp (z, y, x, w, append_assoc)
 
   -- the line of a refusal
-  pub refusal_written : (front : List ℕ) (number row : ℕ)
-      → one ≡ front ++ ascii "refused "
+  pub refusal_written : (number row : ℕ)
+      → one ≡ ascii "refused "
       → two ≡ one ++ (decimal number ++ (32 ∷ []))
       → three ≡ two ++ ascii "row "
       → four ≡ three ++ (decimal row ++ (10 ∷ []))
-      → four ≡ front ++ refusal number row
+      → four ≡ refusal number row
   unfolding refusal ascii
-  refusal_written front number row w x y z = simp (z, y, x, w, append_assoc)
+  refusal_written number row w x y z = simp (z, y, x, w, append_assoc)
 
 -- where lines stand written and a line and more are left of the whole, the line written leaves the rest
 pub one_line_more : (front line rest : List ℕ) {whole next : List ℕ} → front ++ (line ++ rest) ≡ whole → next ≡ front ++ line → next ++ rest ≡ whole

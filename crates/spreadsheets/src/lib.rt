@@ -7,7 +7,6 @@ ghost use Rattle.placement.specs.Choice.{allowance_fit};
 ghost use Rattle.service.specs.Text.{TextAnswered, TextTabled};
 
 use answers::Refusal;
-use arrayvec::ArrayVec;
 
 // The certificate of a text, and how many bytes it takes: the new text is written aside first, since its length decides whether it fits.
 pub fn text_service(cores: u32, text: &[u8], lent: &mut [u8]) -> Result<usize, Refusal>
@@ -15,17 +14,13 @@ pub fn text_service(cores: u32, text: &[u8], lent: &mut [u8]) -> Result<usize, R
 {
     let table = parsing::read_text(cores, text)?;
     let certificate = certifying::certificate_of(&table)?;
-    let mut columns = ArrayVec::<u8, 1654>::new();
-    columns::write_text(
-        &mut columns,
-        &table.held.rows().lists(),
-        &certificate.figures(),
-    );
-    let length = columns.len();
+    let mut columns = [0u8; 1654];
+    let rows = table.held.rows();
+    let length = columns::write_text(&mut columns, &rows.lists(), &certificate.figures());
     if lent.len() < length {
         return Err(Refusal::OutputTooShort);
     }
-    lent[..length].copy_from_slice(columns.as_slice());
+    lent[..length].copy_from_slice(&columns[..length]);
     Ok(length)
 }
 

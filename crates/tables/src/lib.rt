@@ -1,7 +1,7 @@
 // The table service, from table bytes to report bytes, and the listing of a table: document 01, "Records", "Refusal numbers" and "The listing".
 #![tactic(auto)]
 
-ghost use Rattle.std.specs.Prelude.{◌≡◌, ◌≤◌, MatchResult, IfSome};
+ghost use Rattle.std.specs.Prelude.{◌≡◌, ◌≤◌, MatchResult, IfSome, length, take};
 ghost use Rattle.std.specs.Option.{unwrap_or};
 ghost use Rattle.answers.specs.Answer.{refused_with, returned_by};
 ghost use Rattle.placement.specs.Choice.{allowance_fit};
@@ -9,7 +9,6 @@ ghost use Rattle.listing.specs.Listing.{refusal};
 ghost use Rattle.service.specs.Table.{TableAnswered, Listed, ListingAnswered};
 
 use answers::{Answer, Refusal};
-use arrayvec::ArrayVec;
 
 // The table service.
 pub fn table_service(table: &[u8], report: &mut [u8]) -> Answer
@@ -25,35 +24,26 @@ pub fn table_service(table: &[u8], report: &mut [u8]) -> Answer
     Ok(())
 }
 
-// The lines of a table's listing; or its refusal.
-fn listing_of(table: &[u8]) -> Result<ArrayVec<u8, 1102>, Refusal>
+// Writes the lines of a table's listing at the front of a text; or gives its refusal.
+fn write_listing(table: &[u8], text: &mut [u8]) -> Result<usize, Refusal>
+    requires { 1102 ≤ length text.old }
     ensures { MatchResult result
-        (λ lines. Listed allowance_fit table.now lines.items)
+        (λ n. Listed allowance_fit table.now (take n text.new) × (n ≤ 1102))
         (λ refused. Listed allowance_fit table.now (refusal (refused_with refused).number (refused_with refused).row)) }
 {
     let read = reading::read_table(table)?;
     let certificate = certifying::certificate_of(&read)?;
-    let mut text = ArrayVec::new();
-    lines::write_listing(&mut text, &certificate.figures());
-    Ok(text)
+    Ok(lines::write_listing(text, &certificate.figures()))
 }
 
-// The line of a refusal.
-fn refusal_of(refused: Refusal) -> ArrayVec<u8, 1102>
-    ensures { result.items ≡ refusal (refused_with refused).number (refused_with refused).row }
+// Writes the lines of a table's listing, or of its refusal, at the front of a text.
+fn write_lines(table: &[u8], text: &mut [u8]) -> usize
+    requires { 1102 ≤ length text.old }
+    ensures { Listed allowance_fit table.now (take result text.new) × (result ≤ 1102) }
 {
-    let mut text = ArrayVec::new();
-    lines::write_refusal(&mut text, Err(refused));
-    text
-}
-
-// The lines of a table's listing, or of its refusal.
-fn lines_of(table: &[u8]) -> ArrayVec<u8, 1102>
-    ensures { Listed allowance_fit table.now result.items }
-{
-    match listing_of(table) {
-        Ok(text) => text,
-        Err(refused) => refusal_of(refused),
+    match write_listing(table, text) {
+        Ok(n) => n,
+        Err(refused) => lines::write_refusal(text, Err(refused)),
     }
 }
 
@@ -62,11 +52,11 @@ pub fn list_table(table: &[u8], listing: &mut [u8]) -> Option<usize>
     ensures answered { ListingAnswered allowance_fit table.now listing.old (unwrap_or result 0) listing.new }
     ensures some { IfSome result (λ n. 1 ≤ n) }
 {
-    let text = lines_of(table);
-    let n = text.len();
+    let mut text = [0u8; 1102];
+    let n = write_lines(table, &mut text);
     if listing.len() < n {
         return None;
     }
-    listing[..n].copy_from_slice(text.as_slice());
+    listing[..n].copy_from_slice(&text[..n]);
     Some(n)
 }

@@ -1,8 +1,13 @@
 -- `write_fields` meets its contract: three writes, one behind another.
+use native.Mathlib.Omega.{arith}
+use lib.ListN.{take}
 use Rattle.columns.proofs.Written.{fields_written}
 use Rattle.columns.proofs.write_fields.Goals as goal
 
-pub returns-clause-value : goal.returns-clause-value
-returns-clause-value g c =
+pub returns : goal.returns
+returns c =
     let args = c.args in
-    fields_written args.text.now.items args.first args.second args.third args.behind c.write_number.ensures.value c.write_number-2.ensures.value c.write_number-3.ensures.value
+    let one = c.write_number-end.ensures in
+    let two = c.write_number-end-2.ensures in
+    let three = c.write_number.ensures in
+    (fields_written (take args.at args.text.now) args.first args.second args.third args.behind one.0 two.0 three.0, omega (arith, one.1))

@@ -1,4 +1,5 @@
 -- `write_text` meets its contract: the header, and the lines behind it.
+use native.Mathlib.Omega.{arith}
 use Rattle.rows.specs.Values.{rows_listed, figures_in}
 use Rattle.listing.specs.Listing.{ascii}
 use Rattle.texts.specs.Text.{names}
@@ -7,8 +8,10 @@ use Rattle.texts.specs.Columns.{line_of, all_names}
 use Rattle.columns.proofs.Written.{text_written}
 use Rattle.columns.proofs.write_text.Goals as goal
 
-pub returns-clause-value : goal.returns-clause-value
+pub returns : goal.returns
 unfolding joined line_of all_names names ascii
-returns-clause-value g c =
+returns c =
     let args = c.args in
-    text_written args.text.now.items (rows_listed args.rows.now) (figures_in args.figures.now) c.write_bytes.ensures c.write_lines.ensures.value
+    let header = c.write_bytes-end.ensures in
+    let rows = c.write_lines.ensures in
+    (text_written (rows_listed args.rows.now) (figures_in args.figures.now) header.0 rows.0, omega (arith, c.requires, header.1, rows.1))

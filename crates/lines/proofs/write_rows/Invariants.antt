@@ -2,13 +2,14 @@
 use mathlib.Core.Path.{◌≡◌}
 use Prim.Native.Nat.{◌+◌, ◌*◌, ◌≤◌}
 use mathlib.Core.List.{◌++◌}
-use Rattle.arrayvec.specs.ArrayVec.{array_vec_len}
+use lib.ListN.{length, take}
 use Rattle.rows.specs.Values.{figures_in}
 use Rattle.listing.specs.Listing.{row_lines}
 use Rattle.listing.proofs.RowLines.{lines_from}
 use Rattle.lines.proofs.write_rows.Given as goal
 
 abbrev pub invariant-loop-i : goal.invariant-loop-i
-invariant-loop-i g l =
-    (array_vec_len l.text ≤ array_vec_len l.initial.text + 44 * l.i)
-    × (l.text.items ++ lines_from l.figures.core.now l.figures.response.now l.figures.allowance.now l.i ≡ l.initial.text.items ++ row_lines 1 (figures_in l.figures))
+invariant-loop-i l =
+    (length l.text ≡ length l.initial.text)
+    × (l.end ≤ l.at + 44 * l.i)
+    × (take l.end l.text ++ lines_from l.figures.core.now l.figures.response.now l.figures.allowance.now l.i ≡ take l.at l.initial.text ++ row_lines 1 (figures_in l.figures))
