@@ -27,15 +27,16 @@ fn scatter(list: &mut [u32], places: &[usize], numbers: &[u32])
 
 // The allowance of each row of a core, whose rows are all on time. Few rows have few points; more are tried by climbs, and by points where a climb takes long.
 fn allowances_of(timed: &Timed) -> [u32; 24]
-    ensures allowances { (i : ℕ) → i < length timed.now.set.rows.c.now → IsAllowance (rows_in timed.now.set.rows) i (get_or result i 0) }
+    ensures allowances { (i : ℕ) → i < length timed.now.set.now.rows.c.now → IsAllowance (rows_in timed.now.set.now.rows) i (get_or result i 0) }
     ensures long { length result ≡ 24 }
 {
-    if 6 < timed.set.rows.c.len() {
+    let set = timed.set;
+    if 6 < set.rows.c.len() {
         if let Ok(allowances) = trials::short_allowances(timed, 3000) {
             return allowances;
         }
     }
-    points::allowances_by_points(&timed.set)
+    points::allowances_by_points(set)
 }
 
 // Writes the response times and allowances of a core's rows, which all meet, to the rows' places.
@@ -45,7 +46,8 @@ fn write_core(rows: &Rows, places: &[usize], responses: &mut [u32], allowances: 
     ensures { CoreFigured (rows_in rows.now) places.now responses.old allowances.old responses.new allowances.new }
 {
     let n = places.len();
-    let timed = responses::responses_of(climbs::ranked(*rows)).unwrap();
+    let set = climbs::ranked(*rows);
+    let timed = responses::responses_of(&set).unwrap();
     let core_allowances = allowances_of(&timed);
     scatter(responses, places, &timed.response[..n]);
     scatter(allowances, places, &core_allowances[..n]);

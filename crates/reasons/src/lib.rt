@@ -133,11 +133,12 @@ fn place_of(order: &[usize], i: usize) -> usize
 
 // The row that limits row i of a set that is on time, and the point at which it does.
 pub fn limit_of(timed: &Timed, i: usize) -> Limit
-    requires { i < length timed.now.set.rows.c.now }
-    ensures limited_by { LimitedBy (rows_in timed.now.set.rows) i result.row result.point }
-    ensures row_in_bounds { result.row < length timed.now.set.rows.c.now }
+    requires { i < length timed.now.set.now.rows.c.now }
+    ensures limited_by { LimitedBy (rows_in timed.now.set.now.rows) i result.row result.point }
+    ensures row_in_bounds { result.row < length timed.now.set.now.rows.c.now }
 {
-    let places = &timed.set.order[..timed.set.rows.d.len()];
+    let set = timed.set;
+    let places = &set.order[..set.rows.d.len()];
     let p = place_of(places, i);
     let response = trials::responses_by_rank(timed);
     let by_rank = trials::ranked(timed, &response);

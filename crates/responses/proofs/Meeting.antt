@@ -17,5 +17,5 @@ pub all_in_time_meet : (cs ds ts responses : List ℕ) → Shaped cs ds ts → (
 all_in_time_meet cs ds ts responses shaped in_time_lem k h = in_time_meets (in_time_lem k (in_lists cs ds ts shaped h))
 
 -- so do all rows of a set that is on time
-pub timed_meet : (timed : Timed) → AllMeet (rows_in timed.set.rows)
-timed_meet timed = let rows = timed.set.rows in all_in_time_meet rows.c.now rows.d.now rows.t.now timed.response rows.shaped timed.in_time
+pub timed_meet : (timed : Timed) → AllMeet (rows_in timed.set.now.rows)
+timed_meet timed = let rows = timed.set.now.rows in all_in_time_meet rows.c.now rows.d.now rows.t.now timed.response rows.shaped timed.in_time

@@ -9,5 +9,5 @@ use Rattle.responses.specs.InTime.{RespondsInTime}
 
 -- what a verdict says of a set
 abbrev pub IsVerdict : RankedSet → Result Timed Miss → Type 0
-IsVerdict set (Ok timed) = (timed.set ≡ set) × ((k : ℕ) → k < length (rows_in set.rows) → RespondsInTime (rows_in set.rows) timed.response k)
+IsVerdict set (Ok timed) = (timed.set.now ≡ set) × ((k : ℕ) → k < length (rows_in set.rows) → RespondsInTime (rows_in set.rows) timed.response k)
 IsVerdict set (Err miss) = FirstMiss (rows_in set.rows) miss.row

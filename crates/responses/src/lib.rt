@@ -9,8 +9,8 @@ use climbs::RankedSet;
 pub use timed::{Miss, Timed};
 
 // The response time of each row, or the highest-ranked row that misses. A climb starts its row's own time after the response time of the row before.
-pub fn responses_of(set: RankedSet<'_>) -> Result<Timed<'_>, Miss>
-    ensures { IsVerdict set.entry result }
+pub fn responses_of<'a>(set: &'a RankedSet<'a>) -> Result<Timed<'a>, Miss>
+    ensures { IsVerdict set.now result }
 {
     let by_rank = set.by_rank();
     let mut response = [0u32; 24];

@@ -14,8 +14,8 @@ pub struct Miss {
 // A set, and the response time of each row at its place, which is at most its deadline.
 #[derive(Drop)]
 pub struct Timed<'a> {
-    pub set: RankedSet<'a>,
+    pub set: &'a RankedSet<'a>,
     pub response: [u32; 24],
-    ghost in_time: { (k : ℕ) → k < length set.rows.c.now → RespondsInTime (rows_in set.rows) response k },
+    ghost in_time: { (k : ℕ) → k < length set.now.rows.c.now → RespondsInTime (rows_in set.now.rows) response k },
     ghost long: { length response ≡ 24 },
 }

@@ -43,9 +43,9 @@ module _ {cs ds ts : List ℕ} {row : ℕ} where
       miss_unexplained (stage.row_misses k first) = promise.row_misses (row - 1) k passed.shaped passed.within its_place up_to_last (rw (← passed.same_rows) first)
 
       -- every row meets, and one limits
-      pub limit_explained : {timed : Timed} {k p number : ℕ} → IsTimed rows (Ok timed) → LimitedBy (rows_in timed.set.rows) (row - 1) k p → number ≡ suc k → Explained cs ds ts row (returned 0 0) number p
+      pub limit_explained : {timed : Timed} {k p number : ℕ} → IsTimed rows (Ok timed) → LimitedBy (rows_in timed.set.now.rows) (row - 1) k p → number ≡ suc k → Explained cs ds ts row (returned 0 0) number p
       limit_explained {timed} {k} {p} timely limited its_number =
-          let same : timed.set.rows ≡ rows = timed_same timely in
+          let same : timed.set.now.rows ≡ rows = timed_same timely in
           rw its_number
           (promise.limited (row - 1) k p passed.shaped passed.within its_place up_to_last
           (λ h inside. in_time_meets (lists_in_time passed timed same h inside))

@@ -65,27 +65,27 @@ checks_passed {a = Err refusal} said number none = absurd (number_not_0 refusal 
 -- what the trials ask of a set that is on time, and what the points ask
 module _ (timed : Timed) where
   abbrev rows : Rows
-  rows = timed.set.rows
+  rows = timed.set.now.rows
 
   pub trials_may_follow :
       (Shaped rows.c.now rows.d.now rows.t.now × AllWithin (rows_in rows))
-      × (take (length rows.d.now) timed.set.order ≡ ranking_by rows.d.now)
+      × (take (length rows.d.now) timed.set.now.order ≡ ranking_by rows.d.now)
       × ((k : ℕ) → k < length rows.c.now → RespondsInTime (rows_in rows) timed.response k)
-  trials_may_follow = ((rows.shaped, rows.within), timed.set.ranked, timed.in_time)
+  trials_may_follow = ((rows.shaped, rows.within), timed.set.now.ranked, timed.in_time)
 
   pub points_may_follow :
-      (Shaped rows.c.now rows.d.now rows.t.now × AllWithin (rows_in rows)) × (take (length rows.d.now) timed.set.order ≡ ranking_by rows.d.now) × AllMeet (rows_in rows)
-  points_may_follow = ((rows.shaped, rows.within), timed.set.ranked, timed_meet timed)
+      (Shaped rows.c.now rows.d.now rows.t.now × AllWithin (rows_in rows)) × (take (length rows.d.now) timed.set.now.order ≡ ranking_by rows.d.now) × AllMeet (rows_in rows)
+  points_may_follow = ((rows.shaped, rows.within), timed.set.now.ranked, timed_meet timed)
 
-pub timed_same : {rows : Rows} {timed : Timed} → IsTimed rows (Ok timed) → timed.set.rows ≡ rows
+pub timed_same : {rows : Rows} {timed : Timed} → IsTimed rows (Ok timed) → timed.set.now.rows ≡ rows
 timed_same (stage.rows_in_time timed same) = same
 
 -- the rows that responded are the rows that passed
-module _ {cs ds ts : List ℕ} {responses allowances : ℕ} {rows : Rows} (passed : Passed cs ds ts responses allowances rows) (timed : Timed) (same : timed.set.rows ≡ rows) where
-  pub as_lists : rows_in timed.set.rows ≡ rows_of cs ds ts
+module _ {cs ds ts : List ℕ} {responses allowances : ℕ} {rows : Rows} (passed : Passed cs ds ts responses allowances rows) (timed : Timed) (same : timed.set.now.rows ≡ rows) where
+  pub as_lists : rows_in timed.set.now.rows ≡ rows_of cs ds ts
   as_lists = ap rows_in same ∙ passed.same_rows
 
-  pub as_many : length timed.set.rows.c.now ≡ length cs
+  pub as_many : length timed.set.now.rows.c.now ≡ length cs
   as_many = ap (λ (held : Rows). length held.c.now) same ∙ passed.same_length
 
   -- and every row of the lists responds in time
@@ -109,10 +109,10 @@ module _ (Allowance : List Row → ℕ → ℕ → Type 0) {cs ds ts responses a
     -- with an allowance for each row the call is accepted
     pub found_answered : {timed : Timed} (found : List ℕ) → IsTimed rows (Ok timed)
         → length found ≡ 24
-        → ((i : ℕ) → i < length timed.set.rows.c.now → Allowance (rows_in timed.set.rows) i (get_or found i 0))
+        → ((i : ℕ) → i < length timed.set.now.rows.c.now → Allowance (rows_in timed.set.now.rows) i (get_or found i 0))
         → Answered Allowance cs ds ts responses allowances (returned 0 0) (filled (take (length cs) timed.response) responses) (filled (take (length cs) found) allowances)
     found_answered {timed} found timely long each =
-        let same : timed.set.rows ≡ rows = timed_same timely in
+        let same : timed.set.now.rows ≡ rows = timed_same timely in
         let in_time = lists_in_time passed timed same in
         lists.accepted (take (length cs) timed.response) (take (length cs) found) passed.shaped passed.within passed.responses_fit passed.allowances_fit
         (λ k inside. in_time_meets (in_time k inside))

@@ -11,7 +11,7 @@ use Rattle.sets.specs.declared.Explanation.{Explanation}
 -- after the response times of rows that passed the checks
 pub data IsTimed (rows : Rows) : Result Timed Refusal → Type 0 where
   row_misses : (k : ℕ) → FirstMiss (rows_in rows) k → IsTimed rows (Err (RowMisses (suc k)))
-  rows_in_time : (timed : Timed) → timed.set.rows ≡ rows → IsTimed rows (Ok timed)
+  rows_in_time : (timed : Timed) → timed.set.now.rows ≡ rows → IsTimed rows (Ok timed)
 
 -- the number of the limiting row, and the point; with a refusal both are 0
 abbrev pub limiting_of : Result Explanation Refusal → ℕ

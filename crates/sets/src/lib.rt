@@ -13,8 +13,8 @@ ghost use Rattle.answers.specs.Answer.{returned_by};
 ghost use Rattle.sets.specs.Stages.{IsTimed, limiting_of, point_of};
 
 use answers::{Answer, Refusal};
+use climbs::RankedSet;
 use responses::Timed;
-use rows::Rows;
 
 // A way to find the allowances of a set that is on time, and what it means by an allowance.
 pub trait FindAllowances {
@@ -22,7 +22,7 @@ pub trait FindAllowances {
 
     // The allowance of each row at its place.
     fn find(timed: &Timed) -> [u32; 24]
-        ensures each { (i : ℕ) → i < length timed.now.set.rows.c.now → allowance (rows_in timed.now.set.rows) i (get_or result i 0) }
+        ensures each { (i : ℕ) → i < length timed.now.set.now.rows.c.now → allowance (rows_in timed.now.set.now.rows) i (get_or result i 0) }
         ensures long { length result ≡ 24 };
 }
 
@@ -44,7 +44,7 @@ impl FindAllowances for ByPoints {
     ghost allowance = { λ rows i a. IsPointAllowance rows i (pos a) };
 
     fn find(timed: &Timed) -> [u32; 24] {
-        points::allowances_by_points(&timed.set)
+        points::allowances_by_points(timed.set)
     }
 }
 
@@ -56,11 +56,11 @@ fn fill(list: &mut [u32], numbers: &[u32])
     list[..numbers.len()].copy_from_slice(numbers);
 }
 
-// The response times of rows, or the refusal for the highest-ranked row that misses.
-fn respond<'a>(rows: &Rows<'a>) -> Result<Timed<'a>, Refusal>
-    ensures { IsTimed rows.now result }
+// The response times of a set's rows, or the refusal for the highest-ranked row that misses.
+fn respond<'a>(set: &'a RankedSet<'a>) -> Result<Timed<'a>, Refusal>
+    ensures { IsTimed set.now.rows result }
 {
-    match responses::responses_of(climbs::ranked(*rows)) {
+    match responses::responses_of(set) {
         Ok(timed) => Ok(timed),
         Err(miss) => Err(Refusal::RowMisses(miss.row as u32 + 1)),
     }
@@ -77,7 +77,8 @@ pub fn list_service<F: FindAllowances>(
     ensures { Answered F.allowance c.now d.now t.now responses.old allowances.old (returned_by result) responses.new allowances.new }
 {
     let rows = refusals::check_lists(c, d, t, responses.len(), allowances.len())?;
-    let timed = respond(&rows)?;
+    let set = climbs::ranked(rows);
+    let timed = respond(&set)?;
     let found = F::find(&timed);
     let n = c.len();
     fill(responses, &timed.response[..n]);
@@ -127,7 +128,8 @@ pub fn explain(c: &[u32], d: &[u32], t: &[u32], row: u32) -> Result<Explanation,
     if row == 0 || n <= row as usize - 1 {
         return Err(Refusal::RowNotInSet);
     }
-    let timed = respond(&rows)?;
+    let set = climbs::ranked(rows);
+    let timed = respond(&set)?;
     let limit = reasons::limit_of(&timed, row as usize - 1);
     Ok(Explanation {
         limiting: limit.row as u32 + 1,

@@ -43,19 +43,21 @@ pub fn allowance_at(by_rank: &ByRank, p: usize, rounds: u32) -> Result<u32, Left
 // The response times of a set by rank.
 #[tactic(auto, using(climbs::proofs::OrderByRank::places_below))]
 pub fn responses_by_rank(timed: &Timed) -> [u32; 24]
-    ensures by_rank { InRankOrder timed.now.set.rows.d.now timed.now.response (take (length timed.now.set.rows.d.now) result) }
+    ensures by_rank { InRankOrder timed.now.set.now.rows.d.now timed.now.response (take (length timed.now.set.now.rows.d.now) result) }
     ensures long { length result ≡ 24 }
 {
-    climbs::gather(&timed.response, &timed.set.order[..timed.set.rows.d.len()])
+    let set = timed.set;
+    climbs::gather(&timed.response, &set.order[..set.rows.d.len()])
 }
 
 // The rows of a set by rank, with their response times gathered so.
-pub fn ranked<'a>(timed: &'a Timed, response: &'a [u32; 24]) -> ByRank<'a>
-    requires by_rank { InRankOrder timed.now.set.rows.d.now timed.now.response (take (length timed.now.set.rows.d.now) response.now) }
+pub fn ranked<'a>(timed: &'a Timed<'a>, response: &'a [u32; 24]) -> ByRank<'a>
+    requires by_rank { InRankOrder timed.now.set.now.rows.d.now timed.now.response (take (length timed.now.set.now.rows.d.now) response.now) }
     requires long { length response.now ≡ 24 }
-    ensures { AreTimedByRank timed.now.set.rows timed.now.response result }
+    ensures { AreTimedByRank timed.now.set.now.rows timed.now.response result }
 {
-    let rows = timed.set.by_rank();
+    let set = timed.set;
+    let rows = set.by_rank();
     ByRank {
         c: rows.c,
         d: rows.d,
@@ -66,14 +68,15 @@ pub fn ranked<'a>(timed: &'a Timed, response: &'a [u32; 24]) -> ByRank<'a>
 
 // The allowance of each row, by climbs of at most so many rounds.
 pub fn short_allowances(timed: &Timed, rounds: u32) -> Result<[u32; 24], LeftOff>
-    ensures allowances { IfOk result (λ allowance. (i : ℕ) → i < length timed.now.set.rows.c.now → IsAllowance (rows_in timed.now.set.rows) i (get_or allowance i 0)) }
+    ensures allowances { IfOk result (λ allowance. (i : ℕ) → i < length timed.now.set.now.rows.c.now → IsAllowance (rows_in timed.now.set.now.rows) i (get_or allowance i 0)) }
     ensures long { IfOk result (λ allowance. length allowance ≡ 24) }
     ensures left_off { OnErr result (rounds < 1_000_000) }
 {
     let response = responses_by_rank(timed);
     let by_rank = ranked(timed, &response);
     let mut allowance = [0u32; 24];
-    let places = &timed.set.order[..timed.set.rows.d.len()];
+    let set = timed.set;
+    let places = &set.order[..set.rows.d.len()];
     for (p, &place) in places.iter().enumerate() {
         allowance[place] = allowance_at(&by_rank, p, rounds)?;
     }
@@ -82,7 +85,7 @@ pub fn short_allowances(timed: &Timed, rounds: u32) -> Result<[u32; 24], LeftOff
 
 // The allowance of each row. No climb takes a million rounds, so none is left off.
 pub fn trial_allowances(timed: &Timed) -> [u32; 24]
-    ensures allowances { (i : ℕ) → i < length timed.now.set.rows.c.now → IsAllowance (rows_in timed.now.set.rows) i (get_or result i 0) }
+    ensures allowances { (i : ℕ) → i < length timed.now.set.now.rows.c.now → IsAllowance (rows_in timed.now.set.now.rows) i (get_or result i 0) }
     ensures long { length result ≡ 24 }
 {
     short_allowances(timed, 1_000_000).unwrap()

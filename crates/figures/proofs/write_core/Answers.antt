@@ -10,13 +10,13 @@ pub returns : goal.returns
 returns c =
     let rows = c.args.rows.now in
     let timed = c.unwrap-timed.result in
-    let same : timed.set.rows ≡ rows = ap (λ (set : RankedSet). set.rows) (rw c.unwrap-timed.ensures at c.responses_of.ensures).0 ∙ c.ranked.ensures in
+    let same : timed.set.now.rows ≡ rows = ap (λ (set : RankedSet). set.rows) (rw c.unwrap-timed.ensures at c.responses_of.ensures).0 ∙ c.ranked-set.ensures in
     record {
       core_responses = _;
       core_allowances = _;
-      are_responses = numbers_for_each IsResponse rows timed.set.rows _ timed.response same c.requires.places_len.0 timed.long (λ k h. (timed.in_time k h).is_response);
+      are_responses = numbers_for_each IsResponse rows timed.set.now.rows _ timed.response same c.requires.places_len.0 timed.long (λ k h. (timed.in_time k h).is_response);
       are_allowances =
-          numbers_for_each IsAllowance rows timed.set.rows _ c.allowances_of-core_allowances.result same c.requires.places_len.0 c.allowances_of-core_allowances.ensures.long
+          numbers_for_each IsAllowance rows timed.set.now.rows _ c.allowances_of-core_allowances.result same c.requires.places_len.0 c.allowances_of-core_allowances.ensures.long
           c.allowances_of-core_allowances.ensures.allowances;
       responses_written = c.scatter.ensures;
       allowances_written = c.scatter-2.ensures;

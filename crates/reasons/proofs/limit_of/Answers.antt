@@ -16,12 +16,12 @@ use Rattle.reasons.proofs.ByRank.{points_by_rank, limited_of_rank}
 use Rattle.reasons.proofs.limit_of.Goals as goal
 
 -- the rows of a set that is on time meet
-all_meet : (timed : Timed) → AllMeet (rows_in timed.set.rows)
-all_meet timed = let rows = timed.set.rows in all_in_time_meet rows.c.now rows.d.now rows.t.now timed.response rows.shaped timed.in_time
+all_meet : (timed : Timed) → AllMeet (rows_in timed.set.now.rows)
+all_meet timed = let rows = timed.set.now.rows in all_in_time_meet rows.c.now rows.d.now rows.t.now timed.response rows.shaped timed.in_time
 
 pub place_of-p-requires : goal.place_of-p-requires
 place_of-p-requires c =
-    let set = c.args.timed.now.set in
+    let set = c.args.timed.now.set.now in
     rw set.ranked (mem_ranking set.rows.d.now c.args.i (omega (arith, set.rows.shaped.as_many_deadlines)))
 
 pub limit_at-limit-requires-clause-points_by_rank : goal.limit_at-limit-requires-clause-points_by_rank
@@ -29,7 +29,7 @@ limit_at-limit-requires-clause-points_by_rank c = points_by_rank c.ranked-by_ran
 
 pub returns-clause-limited_by : goal.returns-clause-limited_by
 returns-clause-limited_by c =
-    let set = c.args.timed.now.set in
+    let set = c.args.timed.now.set.now in
     let rows = set.rows in
     let stand = c.ranked-by_rank.ensures.stand in
     let inside : c.place_of-p.result < length rows.c.now = omega (arith, c.place_of-p.ensures.0, length-take (length rows.d.now) set.order, rows.shaped.as_many_deadlines) in
@@ -41,6 +41,6 @@ returns-clause-limited_by c =
 
 pub returns-clause-row_in_bounds : goal.returns-clause-row_in_bounds
 returns-clause-row_in_bounds c =
-    let set = c.args.timed.now.set in
+    let set = c.args.timed.now.set.now in
     let rows = set.rows in
     rw set.ranked (ranked_in_lists rows.c.now rows.d.now rows.t.now rows.shaped c.limit_at-limit.result.row (omega (arith, c.limit_at-limit.ensures.inside, as_many_by_rank c.ranked-by_rank.ensures.stand)))

@@ -4,7 +4,7 @@ use mathlib.Core.Logic.{inl, inr}
 use native.Mathlib.Omega.{arith}
 use borrow.Author.Rules.{rules}
 use Rattle.std.proofs.Common.{Err}
-use Rattle.sets.proofs.Stages.{checks_pass}
+use Rattle.sets.proofs.Stages.{checks_pass, timed_same, as_many}
 use Rattle.sets.proofs.Explaining.{checks_unexplained, no_such_row, miss_unexplained, limit_explained}
 use Rattle.sets.proofs.explain.Goals.{then-row-eq0-via-then-row-eq0, then-row-eq0-via-else-row-eq0+then-n-row}
 use Rattle.sets.proofs.explain.Goals as goal
@@ -22,7 +22,12 @@ returns-then-row-eq0 c =
 pub returns-in_err-timed : goal.returns-in_err-timed
 returns-in_err-timed c =
     let same : c.from_residual-in_err-timed.result ≡ Err c.in_err-timed.field-0.0 = search rules in
-    rw same (miss_unexplained (checks_pass c.in_ok-rows.ensures) (omega arith) (omega arith) c.in_err-timed.ensures)
+    rw same (miss_unexplained (checks_pass c.in_ok-rows.ensures) (omega arith) (omega arith) (rw c.ranked-set.ensures at c.in_err-timed.ensures))
+
+pub limit_of-limit-requires : goal.limit_of-limit-requires
+limit_of-limit-requires c =
+    let timely = rw c.ranked-set.ensures at c.in_ok-timed.ensures in
+    omega (arith, as_many (checks_pass c.in_ok-rows.ensures) c.in_ok-timed.timed (timed_same timely))
 
 pub returns : goal.returns
-returns c = limit_explained (checks_pass c.in_ok-rows.ensures) (omega arith) (omega arith) c.in_ok-timed.ensures c.limit_of-limit.ensures.limited_by (omega arith)
+returns c = limit_explained (checks_pass c.in_ok-rows.ensures) (omega arith) (omega arith) (rw c.ranked-set.ensures at c.in_ok-timed.ensures) c.limit_of-limit.ensures.limited_by (omega arith)

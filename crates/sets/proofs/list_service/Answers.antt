@@ -15,7 +15,7 @@ returns-in_err-rows g c =
 pub returns-in_err-timed : goal.returns-in_err-timed
 returns-in_err-timed g c =
     let same : c.from_residual-in_err-timed.result ≡ Err c.in_err-timed.field-0.0 = search rules in
-    rw same (miss_answered g.F.FindAllowances.allowance (checks_pass c.in_ok-rows.ensures) c.in_err-timed.ensures)
+    rw same (miss_answered g.F.FindAllowances.allowance (checks_pass c.in_ok-rows.ensures) (rw c.ranked-set.ensures at c.in_err-timed.ensures))
 
 pub shared_ref_as_front-fill : goal.shared_ref_as_front-fill
 shared_ref_as_front-fill g c = (checks_pass c.in_ok-rows.ensures).shaped.no_25th
@@ -28,4 +28,4 @@ fill-requires-2 g c =
 pub returns : goal.returns
 returns g c =
     rw (c.fill.ensures, c.fill-2.ensures)
-    (found_answered g.F.FindAllowances.allowance (checks_pass c.in_ok-rows.ensures) c.find-found.result c.in_ok-timed.ensures c.find-found.ensures.long c.find-found.ensures.each)
+    (found_answered g.F.FindAllowances.allowance (checks_pass c.in_ok-rows.ensures) c.find-found.result (rw c.ranked-set.ensures at c.in_ok-timed.ensures) c.find-found.ensures.long c.find-found.ensures.each)

@@ -19,21 +19,21 @@ place_below set {p} h =
     rw set.ranked (omega (arith, ranked_in_lists rows.c.now rows.d.now rows.t.now rows.shaped p (turn_inside set h), rows.shaped.no_25th))
 
 pub offset_bounds-allowance-place : goal.offset_bounds-allowance-place
-offset_bounds-allowance-place c = omega (arith, place_below c.args.timed.now.set c.loop-p-test.true)
+offset_bounds-allowance-place c = omega (arith, place_below c.args.timed.now.set.now c.loop-p-test.true)
 
 pub bounds-allowance-place : goal.bounds-allowance-place
-bounds-allowance-place c = place_below c.args.timed.now.set c.loop-p-test.true
+bounds-allowance-place c = place_below c.args.timed.now.set.now c.loop-p-test.true
 
 pub loop-p-preserved : goal.loop-p-preserved
 loop-p-preserved c =
     let timed = c.args.timed.now in
-    let inside = turn_inside timed.set c.loop-p-test.true in
-    rw timed.set.ranked
-    (filled_more timed.set.rows.d.now _ (omega (arith, timed.set.rows.shaped)) c.loop-p.invariant (omega (arith, inside, timed.set.rows.shaped.as_many_deadlines)) c.in_ok-allowance.field-0
+    let inside = turn_inside timed.set.now c.loop-p-test.true in
+    rw timed.set.now.ranked
+    (filled_more timed.set.now.rows.d.now _ (omega (arith, timed.set.now.rows.shaped)) c.loop-p.invariant (omega (arith, inside, timed.set.now.rows.shaped.as_many_deadlines)) c.in_ok-allowance.field-0
     (allowance_of_rank c.ranked-by_rank.ensures.stand c.loop-p.p inside timed.in_time c.in_ok-allowance.field-0 c.in_ok-allowance.ensures))
 
 pub returns-clause-allowances : goal.returns-clause-allowances
 returns-clause-allowances c =
-    let set = c.args.timed.now.set in
+    let set = c.args.timed.now.set.now in
     let ends = rw set.ranked at c.loop-p-test.false in
     λ i h. filled_all set.rows.d.now _ c.loop-p.invariant (omega (arith, ends, length_ranking set.rows.d.now)) i (omega (arith, h, set.rows.shaped.as_many_deadlines))

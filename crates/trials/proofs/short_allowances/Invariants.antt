@@ -5,4 +5,4 @@ use Rattle.climbs.proofs.FilledByRank.{FilledByRank}
 use Rattle.trials.proofs.short_allowances.Given as goal
 
 abbrev pub invariant-loop-p : goal.invariant-loop-p
-invariant-loop-p l = let rows = l.timed.set.rows in FilledByRank rows.d.now (IsAllowance (rows_in rows)) l.allowance l.p
+invariant-loop-p l = let rows = l.timed.set.now.rows in FilledByRank rows.d.now (IsAllowance (rows_in rows)) l.allowance l.p
