@@ -5,6 +5,7 @@
 ghost use Rattle.std.specs.Prelude.{◌≡◌, ◌/◌, ◌≤◌, min};
 ghost use Rattle.std.specs.Result.{result_unwrap_or};
 ghost use Rattle.answers.specs.Answer.{returned_by, number_of, row_of};
+ghost use Rattle.theory.specs.Lists.{Answered};
 ghost use Rattle.records.specs.ListBytes.{BytesAnswered};
 ghost use Rattle.records.specs.ExplanationBytes.{BytesExplained};
 ghost use Rattle.sets.specs.Stages.{limiting_of, point_of};
@@ -123,8 +124,44 @@ fn room(bytes: usize) -> usize
     (bytes / 4).min(24)
 }
 
+// A list service, by its way to find allowances.
+trait ListService: FindAllowances {
+    fn answer(
+        c: &[u32],
+        d: &[u32],
+        t: &[u32],
+        responses: &mut [u32],
+        allowances: &mut [u32],
+    ) -> Answer
+        ensures { Answered Self.allowance c.now d.now t.now responses.old allowances.old (returned_by result) responses.new allowances.new };
+}
+
+impl ListService for ByTrial {
+    fn answer(
+        c: &[u32],
+        d: &[u32],
+        t: &[u32],
+        responses: &mut [u32],
+        allowances: &mut [u32],
+    ) -> Answer {
+        sets::set_service(c, d, t, responses, allowances)
+    }
+}
+
+impl ListService for ByPoints {
+    fn answer(
+        c: &[u32],
+        d: &[u32],
+        t: &[u32],
+        responses: &mut [u32],
+        allowances: &mut [u32],
+    ) -> Answer {
+        sets::point_service(c, d, t, responses, allowances)
+    }
+}
+
 // The list service with the answer lists as bytes: it fills arrays, and their numbers are written only when it accepts.
-fn answer_in_bytes<F: FindAllowances>(
+fn answer_in_bytes<F: ListService>(
     c: &[u32],
     d: &[u32],
     t: &[u32],
@@ -137,7 +174,7 @@ fn answer_in_bytes<F: FindAllowances>(
     let mut allowance = [0u32; 24];
     let r = room(responses.len());
     let a = room(allowances.len());
-    sets::list_service::<F>(c, d, t, &mut response[..r], &mut allowance[..a])?;
+    F::answer(c, d, t, &mut response[..r], &mut allowance[..a])?;
     let n = c.len();
     numbers::put_numbers(responses, &response[..n]);
     numbers::put_numbers(allowances, &allowance[..n]);
@@ -145,7 +182,7 @@ fn answer_in_bytes<F: FindAllowances>(
 }
 
 // The same with all lists as bytes.
-fn answer_bytes<F: FindAllowances>(
+fn answer_bytes<F: ListService>(
     c: &[u8],
     d: &[u8],
     t: &[u8],
