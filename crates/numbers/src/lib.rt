@@ -26,7 +26,7 @@ pub fn put_number(bytes: &mut [u8], at: usize, n: u32)
     requires { at + 4 ≤ length bytes.old }
     ensures { bytes.new ≡ take at bytes.old ++ four_bytes n ++ drop (at + 4) bytes.old }
 {
-    put_bytes(bytes, at, &n.to_be_bytes());
+    bytes[at..at + 4].copy_from_slice(&n.to_be_bytes());
 }
 
 // Writes bytes into a byte string from a place on.
@@ -34,7 +34,10 @@ pub fn put_bytes(bytes: &mut [u8], at: usize, part: &[u8])
     requires { at + length part.now ≤ length bytes.old }
     ensures { bytes.new ≡ take at bytes.old ++ part.now ++ drop (at + length part.now) bytes.old }
 {
-    bytes[at..at + part.len()].copy_from_slice(part);
+    // Byte by byte: the library's copy of one lent byte string into another asks C for `memmove`, and c/hibalunduk.h says that memcpy and memset are enough.
+    for (j, &byte) in part.iter().enumerate() {
+        bytes[at + j] = byte;
+    }
 }
 
 // The numbers that bytes are, at the front of an array.
