@@ -34,11 +34,11 @@ module _ (lists : RowLists) (k : ℕ) where
 
 module _ (lists : RowLists) where
   -- as many rows as numbers
-  as_many_rows : length (rows_listed lists) ≡ length lists.c.now
+  pub as_many_rows : length (rows_listed lists) ≡ length lists.c.now
   as_many_rows = rows_of_length lists.c.now lists.d.now lists.t.now lists.as_many_deadlines lists.as_many_periods
 
   -- a place within the lists, after rows that keep the limits, that breaks them is the first
-  broken_at : (k : ℕ) → k < length lists.c.now
+  pub broken_at : (k : ℕ) → k < length lists.c.now
       → ((h : ℕ) → h < k → WithinLimits (row_at (rows_listed lists) h))
       → (WithinLimits (row_at (rows_listed lists) k) → ⊥)
       → FirstBroken (rows_listed lists) k
@@ -52,12 +52,15 @@ module _ (lists : RowLists) where
   first_found None each = λ k inside. each k (omega arith) (omega (arith, as_many_rows))
   first_found (Some i) (from_0, inside, breaks, earlier) = broken_at i inside (λ h before. earlier h (omega arith) before) breaks
 
-module _ (cs ds ts : List ℕ) (shaped : Shaped cs ds ts) where
+-- in three lists of one length
+module _ (cs ds ts : List ℕ) (as_many_deadlines : length ds ≡ length cs) (as_many_periods : length ts ≡ length cs) where
   -- the first that breaks them is one of the rows that C has
   pub broken_in_set : {k : ℕ} → FirstBroken (rows_of cs ds ts) k → k < length cs
-  broken_in_set first = omega (arith, first.in_table, rows_of_length cs ds ts shaped.as_many_deadlines shaped.as_many_periods)
+  broken_in_set first = omega (arith, first.in_table, rows_of_length cs ds ts as_many_deadlines as_many_periods)
 
   -- it is refused by its number
-  pub by_number : {responses allowances number k : ℕ} → FirstBroken (rows_of cs ds ts) k → number ≡ suc k
+  pub by_number : {responses allowances number k : ℕ} → length cs ≤ 24 → FirstBroken (rows_of cs ds ts) k → number ≡ suc k
       → Checked cs ds ts responses allowances (Err (RowBreaksLimits number))
-  by_number first its_number = rw its_number (row_breaks_limits _ shaped first)
+  by_number few first its_number =
+      let shaped : Shaped cs ds ts = record { some_row = omega (arith, broken_in_set first); no_25th = few; as_many_deadlines = as_many_deadlines; as_many_periods = as_many_periods } in
+      rw its_number (row_breaks_limits _ shaped first)
