@@ -1,5 +1,5 @@
 -- The stages of a service on a table, from the numbers that its calls' answers have.
-use mathlib.Core.Path.{◌≡◌, sym, ◌∙◌}
+use mathlib.Core.Path.{◌≡◌, refl, sym, ◌∙◌}
 use Prim.Native.Nat.{ℕ}
 use native.Mathlib.Omega.{arith}
 use Rattle.std.specs.Prelude.{Result, Ok, Err}
@@ -16,13 +16,14 @@ use Rattle.certificates.specs.declared.certificate.Certificate.{Certificate}
 use Rattle.certificates.specs.Held.{held_figures, IsHeld}
 use Rattle.rows.proofs.Fronts.{held_rows_many}
 
--- where it is 0, a table was read that keeps the rules
+-- where it is 0, what was read is a table that keeps the rules
 pub read_by_number : {reading : Reading} (read : Result HeldTable Refusal) {number : ℕ} → IsRead reading read → number ≡ number_of read → number ≡ 0
-    → (held : HeldTable) × (reading ≡ table (held_table held)) × TableWithin (held_table held)
+    → (held : HeldTable) × (read ≡ Ok held) × (reading ≡ table (held_table held)) × TableWithin (held_table held)
 read_by_number (Ok of_rows) is_read given none =
     let held = of_rows.held in
     let many = held_rows_many held.c held.d held.t held.n held.held in (
       of_rows,
+      refl,
       is_read,
       record {
         some_core = of_rows.some_core;
@@ -34,8 +35,8 @@ read_by_number (Ok of_rows) is_read given none =
     )
 read_by_number (Err refusal) is_read given none = absurd (number_not_0 refusal (sym given ∙ none))
 
--- and it is certified
+-- and what was given is its certificate
 pub certified_by_number : {t : Table} (given : Result Certificate Refusal) {number : ℕ} → IsHeld t given → number ≡ number_of given → number ≡ 0
-    → (certificate : Certificate) × Certified allowance_fit t (held_figures certificate)
-certified_by_number (Ok certificate) is_held its none = (certificate, is_held)
+    → (certificate : Certificate) × (given ≡ Ok certificate) × Certified allowance_fit t (held_figures certificate)
+certified_by_number (Ok certificate) is_held its none = (certificate, refl, is_held)
 certified_by_number (Err refusal) is_held its none = absurd (number_not_0 refusal (sym its ∙ none))

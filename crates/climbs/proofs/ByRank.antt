@@ -1,21 +1,22 @@
 -- Rank on a list of deadlines is rank among the rows that three lists are. The places by rank are all places, each once, each above those behind it, and
 -- the rivals of a row among them are the levels of its walk.
 use mathlib.Core.Path.{◌≡◌, refl, sym, ◌∙◌, ap, ap₂, subst, fun_ext}
-use Prim.Native.Nat.{ℕ, ◌<◌, zero-le}
+use Prim.Native.Nat.{ℕ, ◌≤◌, ◌<◌, zero-le}
 use mathlib.Core.Bool.{Bool}
 use mathlib.Core.Logic.{◌⊎◌}
 use mathlib.Core.List.{List, map, Memᴰ}
 use native.Mathlib.Omega.{arith}
+use native.Mathlib.Nat.{le_trans, le_of_eq}
 use lib.Dec.{T}
 use lib.ListN.{length, get_or}
 use Rattle.theory.specs.Row.{Row, row_at}
 use Rattle.theory.specs.Gather.{less_or_tied, up_from, keep, sort, All}
 use Rattle.theory.specs.Rank.{above, rivals, levels}
 use Rattle.theory.specs.Lists.{rows_of}
-use Rattle.theory.proofs.Each.{all_map, all_sort, all_up_from}
+use Rattle.theory.proofs.Each.{all_map, all_sort, all_up_from, all_kept}
 use Rattle.theory.proofs.Member.{mem_sort, mem_up_from, length_sort, length_up_from}
 use Rattle.theory.proofs.Order.{Ordered, ordered_distinct, up_from_ascending, sort_ordered}
-use Rattle.theory.proofs.Kept.{keep_sort}
+use Rattle.theory.proofs.Kept.{length_keep_le, keep_sort}
 use Rattle.theory.proofs.RowsOf.{rows_of_length, row_of_lists}
 use Rattle.theory.proofs.Rank.{above_transitive, above_connected, rival_irreflexive}
 use Rattle.climbs.specs.Ranking.{above_by, ranking_by, rivals_in}
@@ -69,6 +70,16 @@ module _ (ds : List ℕ) where
   -- none stands there twice
   pub ranking_distinct : Ordered (λ x y. x ≡ y → ⊥) (ranking_by ds)
   ranking_distinct = ordered_distinct (λ x y. T (above_by ds x y)) (ranking_by ds) above_by_irreflexive ranking_ordered
+
+  -- each rival is a row's place, and ranks above row k
+  pub all_rivals_in : (k : ℕ) → All (λ h. (h < length ds) × T (above_by ds h k)) (rivals_in (ranking_by ds) ds k)
+  unfolding rivals_in
+  all_rivals_in k = all_kept (λ h. h < length ds) (λ h. above_by ds h k) (ranking_by ds) ranking_inside
+
+  -- they are no more than the rows
+  pub few_rivals_in : (k : ℕ) → length (rivals_in (ranking_by ds) ds k) ≤ length ds
+  unfolding rivals_in
+  few_rivals_in k = le_trans (length_keep_le (λ h. above_by ds h k) (ranking_by ds)) (le_of_eq length_ranking)
 
 module _ (cs ds ts : List ℕ) (as_many_deadlines : length ds ≡ length cs) (as_many_periods : length ts ≡ length cs) where
   -- the rows that the lists are

@@ -16,7 +16,7 @@ use Rattle.climbs.specs.Ranking.{numbers_at}
 use Rattle.climbs.specs.Placed.{AreRowsAt}
 
 -- rows at places keep the limits where all rows do
-within_at_places : (rows : List Row) (places : List ℕ) → AllWithin rows → All (λ h. h < length rows) places → AllWithin (map (row_at rows) places)
+pub within_at_places : (rows : List Row) (places : List ℕ) → AllWithin rows → All (λ h. h < length rows) places → AllWithin (map (row_at rows) places)
 within_at_places rows [] within inside k h = absurd (omega arith)
 within_at_places rows (place ∷ places) within inside zero h = within place inside.0
 within_at_places rows (place ∷ places) within inside (suc k) h = within_at_places rows places within inside.1 k (omega arith)

@@ -6,20 +6,21 @@ use mathlib.Core.List.{List, [], ◌∷◌, map}
 use native.Mathlib.Omega.{arith}
 use native.Mathlib.Nat.{le_refl, mul-le-mul_right}
 use lib.Dec.{T}
-use lib.ListN.{length, get_or, take, length-take}
+use lib.ListN.{length, get_or, take, length-take, length-map}
 use lib.Seq.{get_or-take}
 use Rattle.theory.specs.Row.{Row, row_at, WithinLimits, AllWithin}
 use Rattle.theory.specs.Gather.{sum}
-use Rattle.theory.specs.Rank.{above, rivals}
+use Rattle.theory.specs.Rank.{above, rivals, levels}
 use Rattle.theory.specs.Response.{ceil, demand, load}
 use Rattle.theory.specs.Lists.{Shaped, rows_of}
+use Rattle.theory.proofs.Member.{all_at, mem_get_or}
 use Rattle.theory.proofs.Ceil.{ceil_mono}
 use Rattle.theory.proofs.Demand.{ask}
 use Rattle.theory.proofs.Sum.{sum_sort}
-use Rattle.theory.proofs.RowsOf.{rows_of_length, row_of_lists}
+use Rattle.theory.proofs.RowsOf.{rows_of_length, row_of_lists, rows_of_places}
 use Rattle.demands.specs.Levels.{demand_of, load_of, Small}
-use Rattle.climbs.specs.Ranking.{ranking_by, rivals_in}
-use Rattle.climbs.proofs.ByRank.{rivals_by_rank}
+use Rattle.climbs.specs.Ranking.{above_by, ranking_by, rivals_in}
+use Rattle.climbs.proofs.ByRank.{all_rivals_in, few_rivals_in, rivals_by_rank, levels_of_lists}
 
 -- what rows ask for grows with time
 pub demand_of_mono : (cs ts : List ℕ) (s t : ℕ) → s ≤ t → demand_of cs ts s ≤ demand_of cs ts t
@@ -72,10 +73,41 @@ module _ (cs ds ts : List ℕ) (shaped : Shaped cs ds ts) where
           ∙ ap₂ sum (fun_ext (λ h. ap (λ (row : Row). ask row t) (sym (row_at_lem h)))) (rivals_by_rank cs ds ts shaped.as_many_deadlines shaped.as_many_periods k)
           ∙ sum_sort (λ h. ask (row_at rows h) t) (above rows) (rivals rows k)
 
+  -- the levels of row k's walk are the rows of its rivals' entries
+  pub levels_are_rows : (k : ℕ) → levels rows k ≡ rows_of (rival_entries cs ds k) (rival_entries ds ds k) (rival_entries ts ds k)
+  levels_are_rows k =
+      levels_of_lists cs ds ts shaped.as_many_deadlines shaped.as_many_periods k
+      ∙ sym (rows_of_places cs ds ts shaped.as_many_deadlines shaped.as_many_periods (rivals_in (ranking_by ds) ds k))
+
   module _ (within : AllWithin rows) where
     -- the numbers of a row keep the limits
     pub limits_at : (h : ℕ) → h < length cs → WithinLimits (record { C = get_or cs h 0; D = get_or ds h 0; T = get_or ts h 0 })
     limits_at h inside = subst WithinLimits (row_at_lem h) (within h (omega (arith, rows_of_length cs ds ts shaped.as_many_deadlines shaped.as_many_periods)))
+
+    -- no sum over the rivals of row k is large
+    pub small_rivals : (k : ℕ) → Small (rival_entries cs ds k) (rival_entries ts ds k)
+    small_rivals k = record {
+      as_many = length-map hs (λ h. get_or ts h 0) ∙ sym same_length;
+      few = omega (arith, same_length, few_rivals_in ds k, shaped.no_25th, shaped.as_many_deadlines);
+      period_positive = λ j h. omega (arith, limits j h, entry_at ts hs j (inside j h));
+      by_period = λ j h. omega (arith, limits j h, entry_at ts hs j (inside j h), entry_at cs hs j (inside j h));
+      by_million = λ j h. omega (arith, limits j h, entry_at ts hs j (inside j h));
+    }
+      where
+        hs : List ℕ
+        hs = rivals_in (ranking_by ds) ds k
+
+        same_length : length (rival_entries cs ds k) ≡ length hs
+        same_length = length-map hs (λ h. get_or cs h 0)
+
+        inside : (j : ℕ) → j < length (rival_entries cs ds k) → j < length hs
+        inside j h = omega (arith, same_length)
+
+        limits : (j : ℕ) → j < length (rival_entries cs ds k)
+            → WithinLimits (record { C = get_or cs (get_or hs j 0) 0; D = get_or ds (get_or hs j 0) 0; T = get_or ts (get_or hs j 0) 0 })
+        limits j h =
+            limits_at (get_or hs j 0)
+            (omega (arith, (all_at (λ x. (x < length ds) × T (above_by ds x k)) (mem_get_or hs j (inside j h)) (all_rivals_in ds k)).0, shaped.as_many_deadlines))
 
     -- no sum over the rows before a place is large
     pub small_above : (j : ℕ) → Small (take j cs) (take j ts)

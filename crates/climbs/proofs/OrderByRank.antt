@@ -14,12 +14,16 @@ pub places_below : (ds order : List ℕ) {n : ℕ} → take (length ds) order �
 places_below ds order by_rank fits = rw by_rank (all_map (ranking_by ds) (λ h inside. omega arith) (ranking_inside ds))
 
 module _ (cs ds order : List ℕ) (same : length ds ≡ length cs) (ranked : take (length ds) order ≡ ranking_by ds) where
+  -- an order by rank has an entry for each row
+  pub ranked_long : length cs ≤ length order
+  ranked_long = omega (arith, length-take (length ds) order, ap length ranked, length_ranking ds)
+
   -- its first entries are places of every list as long as the rows are many, and no more than 24 where the rows are not
   pub places_of_rows : length cs ≤ 24 → {n : ℕ} → length cs ≤ n → (length (take (length cs) order) ≤ 24) × All (λ h. h < n) (take (length cs) order)
   places_of_rows few fits = (omega (arith, length-take (length cs) order), rw (← same) (places_below ds order ranked (omega arith)))
 
 -- an array into which numbers are gathered at them has the numbers by rank at its front
-gathered_by_rank : (ds order numbers array : List ℕ) (n : ℕ) → n ≡ length ds → take (length ds) order ≡ ranking_by ds
+pub gathered_by_rank : (ds order numbers array : List ℕ) (n : ℕ) → n ≡ length ds → take (length ds) order ≡ ranking_by ds
     → take (length (take n order)) array ≡ numbers_at (take n order) numbers
     → take n array ≡ numbers_by_rank ds numbers
 gathered_by_rank ds order numbers array n all by_rank gathered =

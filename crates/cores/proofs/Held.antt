@@ -10,8 +10,8 @@ use lib.Seq.{get_or-set_same, get_or-set_other}
 use Rattle.theory.specs.Gather.{insert, All}
 use Rattle.theory.proofs.Tests.{equal_or_not}
 use Rattle.theory.proofs.Member.{length_insert}
-use Rattle.placement.specs.Core.{core_of, places_on}
-use Rattle.placement.proofs.PlacesOn.{places_none, places_at_most, places_in_table, places_fewer, places_joined, places_other}
+use Rattle.placement.specs.Core.{core_of, places_on, place_on_core}
+use Rattle.placement.proofs.PlacesOn.{places_none, places_at_most, places_in_table, places_on_core, place_on_core_at, places_fewer, places_joined, places_other}
 use Rattle.cores.specs.Cores.{held_places, HoldsCores, HeldWithout}
 
 -- at the start no core has a row
@@ -39,6 +39,14 @@ module _ {assignment : List ℕ} {rows : List (List ℕ)} {counts : List ℕ} (h
   -- each is a place of the table
   pub held_in_table : All (λ h. h < length assignment) (held_places rows counts m)
   held_in_table = rw (holds.places m on_table) (places_in_table assignment (suc m))
+
+  -- each one's row is on the core
+  pub held_on_core : All (λ h. core_of assignment h ≡ suc m) (held_places rows counts m)
+  held_on_core = rw (holds.places m on_table) (places_on_core assignment (suc m))
+
+  -- the row at place p of them has place p on the core
+  pub held_at : (p : ℕ) → p < get_or counts m 0 → place_on_core assignment (get_or (held_places rows counts m) p 0) ≡ p
+  held_at p h = rw (holds.places m on_table) (place_on_core_at assignment (suc m) p (omega (arith, holds.how_many m on_table)))
 
   module _ (i : ℕ) (in_table : i < length assignment) (on_none : core_of assignment i ≡ 0) where
     -- they are fewer than the rows, where row i is on no core

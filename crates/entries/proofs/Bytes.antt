@@ -37,7 +37,7 @@ front_filled (n ∷ numbers) (a ∷ (b ∷ (c ∷ (d ∷ bytes)))) inside below 
 
 -- with answer lists as bytes, a service answers on rows as numbers as it does on the bytes that these are
 module _ {Allowance : List Row → ℕ → ℕ → Type 0} {cs ds ts responses allowances : List ℕ} {returns : Returned} {responses-after allowances-after : List ℕ} where
-  in_bytes_answered : Fours cs × Fours ds × Fours ts
+  pub in_bytes_answered : Fours cs × Fours ds × Fours ts
       → AnsweredInBytes Allowance (numbers_in cs) (numbers_in ds) (numbers_in ts) responses allowances returns responses-after allowances-after
       → BytesAnswered Allowance cs ds ts responses allowances returns responses-after allowances-after
   in_bytes_answered fours bytes = rw (bytes.responses_are, bytes.allowances_are) (as_numbers returns bytes.Rs bytes.As fours bytes.answered)

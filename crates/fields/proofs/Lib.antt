@@ -1,4 +1,5 @@
 -- Proofs of what the code finds.
+pub mod Begins
 pub mod Left
 pub mod Separators
 pub mod Contents

@@ -1,18 +1,19 @@
 -- What stands behind a field: a comma, a line's end, or neither.
 use mathlib.Core.Path.{◌≡◌, refl, ap, ◌∙◌}
-use Prim.Native.Nat.{ℕ}
+use Prim.Native.Nat.{ℕ, ◌+◌, ◌<◌}
 use native.Mathlib.Omega.{arith}
 use mathlib.Core.Bool.{Bool, true, false}
 use mathlib.Core.List.{List, [], ◌∷◌}
 use denote.Ref.{Bor}
 use lib.Dec.{eqb}
-use lib.ListN.{length}
+use lib.ListN.{length, get_or, drop}
 use borrow.Author.Tests.{eqb-true}
 use Rattle.std.specs.Prelude.{Option, Some, None, MatchOption, option_copied}
 use Rattle.texts.specs.Text.{LF, CR, comma, begins_with}
 use Rattle.texts.specs.Rest.{lines_behind, rest_of_field, fields_behind}
 use Rattle.texts.proofs.Lines.{lines_stay_behind, comma_ends_field, fields_behind_comma, no_comma_no_fields, line_not_ended, LineEnds, text_ends, LF_ends, CR_LF_ends}
 use Rattle.fields.specs.Found.{comma_behind, line_end_behind, Between, IsBetween}
+use Rattle.fields.proofs.Begins.{one_byte, stands_there}
 
 -- a text that does not go on behind a byte does not begin with it
 not_begun : (byte : ℕ) (text : List ℕ) → ((rest : List ℕ) → text ≡ byte ∷ rest → ⊥) → begins_with byte text ≡ false
@@ -67,3 +68,15 @@ CR_LF_found [] None some_byte no_LF no_CR_LF = absurd (some_byte refl)
 CR_LF_found (byte ∷ others) None some_byte no_LF no_CR_LF =
     line_not_ended byte others (λ is_LF. no_LF others (ap (λ b. b ∷ others) is_LF))
     (λ is_CR. not_begun LF others (λ rest same. no_CR_LF rest (ap (λ b. b ∷ others) is_CR ∙ ap (λ next. CR ∷ next) same)))
+
+-- a line's end at a place of a text
+module _ (text : List ℕ) (at : ℕ) where
+  pub LF_end : at < length text → get_or text at 0 ≡ LF → LineEnds (drop at text) (drop (at + 1) text)
+  LF_end inside is_LF = rw (one_byte text at inside, is_LF) (LF_ends (drop (at + 1) text))
+
+  module _ (inside : at < length text) where
+    pub CR_LF_end : get_or text at 0 ≡ CR → begins_with LF (drop (at + 1) text) ≡ true → LineEnds (drop at text) (drop (at + 2) text)
+    CR_LF_end is_CR begins =
+        let there = stands_there text (at + 1) LF begins in
+        let next : at + 1 + 1 ≡ at + 2 = omega arith in
+        rw (one_byte text at inside, is_CR, there.1, next) (CR_LF_ends (drop (at + 2) text))

@@ -5,7 +5,7 @@ use Prim.Native.Nat.{ℕ, zero, suc, ◌+◌, ◌-◌, ◌*◌, ◌/◌, ◌≤�
 use mathlib.Core.Bool.{Bool, true, false}
 use mathlib.Core.List.{List, [], ◌∷◌, ◌++◌}
 use native.Mathlib.Omega.{arith}
-use native.Mathlib.Nat.{mul-add, mul-sub, mul_assoc, mul_comm, mul-le-mul_left, mul-le-mul_right, div-mul-le_self}
+use native.Mathlib.Nat.{le_refl, mul-add, mul-sub, mul_assoc, mul_comm, mul-le-mul_left, mul-le-mul_right, div-mul-le_self}
 use lib.ListN.{length, get_or, length-append}
 use Rattle.theory.specs.Response.{ceil}
 use Rattle.theory.specs.Climb.{RoomAt, Start}
@@ -87,6 +87,10 @@ one_as_linear (true ∷ part) (c ∷ cs) (T ∷ ts) at h same = let more = one_a
 one_as_linear (false ∷ part) (c ∷ cs) (T ∷ ts) at h same = let more = one_as_linear part cs ts at (omega arith) (omega arith) in (omega (arith, more.0), more.1)
 
 module _ {own : ℕ} {cs ts : List ℕ} {at j rest free : ℕ} (so_far : Leaping own cs ts at j rest free) (same : length ts ≡ length cs) (positive : (i : ℕ) → i < length cs → 1 ≤ get_or ts i 0) where
+  -- what is left is no more than the load
+  pub rest_up_to : rest ≤ load_of own cs ts at
+  rest_up_to = omega (arith, so_far.is_rest, part_asked so_far.part cs ts at at (le_refl at) positive)
+
   module _ (inside : j < length cs) where
     -- the part ends before the next row
     ends_here : length so_far.part < length cs
@@ -118,7 +122,7 @@ module _ {own : ℕ} {cs ts : List ℕ} {at j rest free : ℕ} (so_far : Leaping
     }
 
 -- the load with a raise is the load with a row more
-raise_as_row : (own : ℕ) (cs ts : List ℕ) (period more t : ℕ) → load_of own (more ∷ cs) (period ∷ ts) t ≡ raised_load own cs ts period more t
+pub raise_as_row : (own : ℕ) (cs ts : List ℕ) (period more t : ℕ) → load_of own (more ∷ cs) (period ∷ ts) t ≡ raised_load own cs ts period more t
 unfolding demand_of
 raise_as_row own cs ts period more t = omega (arith, mul_comm more (ceil t period))
 

@@ -2,12 +2,13 @@
 use Prim.Native.Nat.{ℕ, suc, ◌*◌, ◌≤◌, ◌<◌}
 use mathlib.Core.List.{List, [], ◌∷◌}
 use native.Mathlib.Omega.{arith}
-use lib.ListN.{length, get_or}
+use lib.IntN.{ℤ, pos}
+use lib.ListN.{length, get_or, replicate, get_or-replicate}
 use lib.Signed.{◌≤ℤ◌}
 use Rattle.theory.proofs.QuotientRange.{quotient_at_least}
 use Rattle.demands.specs.Levels.{demand_of, load_of, Small}
 use Rattle.demands.proofs.Levels.{ask_small}
-use Rattle.walks.specs.Quotients.{divisor_of, quotient_of, least}
+use Rattle.walks.specs.Quotients.{divisor_of, quotient_of, least, InRange, AllInRange}
 
 -- each row asks for at most two million
 demand_of_small : (cs ts : List ℕ) (t : ℕ) → t ≤ 1_000_000
@@ -26,3 +27,7 @@ unfolding quotient_of
 least_below own cs ts own-small small j p h =
     quotient_at_least 49_999_999 p (load_of own cs ts p) (divisor_of ts j p)
     (omega (arith, small.few, demand_of_small cs ts p h (λ i l. (small.period_positive i l, small.by_period i l, small.by_million i l))))
+
+-- entries that all begin at a number in range are in range
+pub begin_in_range : {z : ℤ} → InRange z → {cs ts : List ℕ} → Small cs ts → AllInRange cs (replicate 25 z)
+begin_in_range {z} h small j inside = rw (get_or-replicate 25 j z (pos 0) (omega (arith, small.few))) h

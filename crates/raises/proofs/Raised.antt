@@ -1,12 +1,14 @@
 -- The load with a raise grows with time and with the raise, so there is room with less where there is with more, and a response time with less is a start
 -- for the climb with more.
+use mathlib.Core.Path.{◌≡◌, fun_ext}
 use Prim.Native.Nat.{ℕ, ◌≤◌}
 use mathlib.Core.List.{List}
 use native.Mathlib.Omega.{arith}
-use native.Mathlib.Nat.{le_trans, mul-le-mul_left, mul-le-mul_right}
+use native.Mathlib.Nat.{le_trans, mul-le-mul_left, mul-le-mul_right, zero-mul}
 use Rattle.theory.specs.Response.{ceil}
 use Rattle.theory.specs.Climb.{RoomAt, LeastRoom, Start}
 use Rattle.theory.proofs.Ceil.{ceil_mono}
+use Rattle.demands.specs.Levels.{load_of}
 use Rattle.climbs.proofs.Load.{load_of_mono}
 use Rattle.demands.specs.Loads.{raised_load}
 use Rattle.raises.specs.Raise.{RoomBy}
@@ -23,6 +25,10 @@ module _ (own : ℕ) (cs ts : List ℕ) (period : ℕ) where
   -- it grows with the raise
   pub raise_mono : (a b t : ℕ) → a ≤ b → load a t ≤ load b t
   raise_mono a b t h = omega (arith, mul-le-mul_right (ceil t period) h)
+
+  -- a raise of nothing changes no load
+  pub raised_by_none : load 0 ≡ load_of own cs ts
+  raised_by_none = fun_ext (λ t. omega (arith, zero-mul (ceil t period)))
 
   -- a time with room with more has room with less
   pub room_at_with_less : (a b S : ℕ) → a ≤ b → RoomAt (load b) S → RoomAt (load a) S

@@ -38,14 +38,14 @@ module _ {cs ds ts : List ℕ} (rows : PointsByRank cs ds ts) (p : ℕ) (inside 
       omega (arith, r.room.enough, once, r.by_limit)
 
   -- its own distance to its deadline
-  distance_is_most : IsMost cs ds ts p (get_or ds p 0 - get_or cs p 0)
+  pub distance_is_most : IsMost cs ds ts p (get_or ds p 0 - get_or cs p 0)
   distance_is_most = record {
     own_distance = omega (arith, rows.by_deadline p inside);
     no_larger = λ all. omega (arith, own_room (suc (get_or ds p 0 - get_or cs p 0)) (room_of_point p (suc (get_or ds p 0 - get_or cs p 0)) inside (all p (omega arith) inside)), rows.by_deadline p inside);
   }
 
   -- its allowance
-  allowance_is_most : (a : ℕ) → AllowanceAt cs ds ts p a → IsMost cs ds ts p a
+  pub allowance_is_most : (a : ℕ) → AllowanceAt cs ds ts p a → IsMost cs ds ts p a
   allowance_is_most a allowed = record {
     own_distance = own_room a (allowed.all_have_room p (omega arith) inside);
     no_larger = λ all. let larger : suc a ≤ a = allowed.largest (suc a) (λ q from h. room_of_point q (suc a) h (all q from h)) in omega arith;

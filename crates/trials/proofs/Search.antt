@@ -8,11 +8,12 @@ use native.Mathlib.Omega.{arith}
 use native.Mathlib.Nat.{mul-one}
 use borrow.Author.Tests.{eq-eqb, ne_eqb}
 use lib.ListN.{length, get_or, take}
+use lib.Seq.{length-take-le, get_or-take}
 use Rattle.theory.specs.Response.{ceil}
 use Rattle.theory.specs.Climb.{LeastRoom}
 use Rattle.theory.proofs.Ceil.{ceil_one}
 use Rattle.theory.proofs.Tests.{equal_or_not}
-use Rattle.demands.specs.Levels.{load_of}
+use Rattle.demands.specs.Levels.{load_of, Small}
 use Rattle.climbs.proofs.Load.{load_of_mono}
 use Rattle.demands.specs.Loads.{raised_load}
 use Rattle.raises.specs.Raise.{RoomBy, LargestRaise}
@@ -28,6 +29,19 @@ counts_itself_once ts p = rw (eq-eqb p p refl, counted_by)
 pub counts_by_period : (ts : List ℕ) (p j : ℕ) → (j ≡ p → ⊥) → counted_by ts p j ≡ get_or ts p 0
 unfolding counted_by
 counts_by_period ts p j other = rw (ne_eqb j p other, counted_by)
+
+-- no sum over the rows before a place is large
+pub small_before : {cs ts : List ℕ} → Small cs ts → (j : ℕ) → j ≤ length cs → Small (take j cs) (take j ts)
+small_before {cs} {ts} small j h = record {
+  as_many = length-take-le j ts (omega (arith, small.as_many)) ∙ sym before;
+  few = omega (arith, small.few, before);
+  period_positive = λ i l. omega (arith, small.period_positive i (omega (arith, before)), get_or-take j ts i 0 (omega (arith, before)));
+  by_period = λ i l. omega (arith, small.by_period i (omega (arith, before)), get_or-take j ts i 0 (omega (arith, before)), get_or-take j cs i 0 (omega (arith, before)));
+  by_million = λ i l. omega (arith, small.by_million i (omega (arith, before)), get_or-take j ts i 0 (omega (arith, before)));
+}
+  where
+    before : length (take j cs) ≡ j
+    before = length-take-le j cs h
 
 -- a row that counts the raise once responds no earlier than the raise after its response time
 raise_after : (own : ℕ) (cs ts : List ℕ) (R b limit : ℕ) → LeastRoom (load_of own cs ts) R → limit ≤ 1_000_000 → RoomBy (raised_load own cs ts 1_000_000 b) limit → R + b ≤ limit

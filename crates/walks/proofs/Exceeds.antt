@@ -61,20 +61,20 @@ product_mag (negsuc a) m = downwards_mag (suc a * m)
 -- the test of an entry b with m jobs, step by step as 64 bits hold it
 module _ {b : ℤ} (in-range : InRange b) {m : ℕ} (within : (1 ≤ m) × (m ≤ 1_000_000)) {jobs : ℤ} (is_m : jobs ≡ pos m) where
   -- one more than the entry
-  next_is : held b +ℤ pos 1 ≡ b +ℤ pos 1
+  pub next_is : held b +ℤ pos 1 ≡ b +ℤ pos 1
   next_is = ap (λ (x : ℤ). x +ℤ pos 1) (held_as_it_is b (omega (arith, range_mag b in-range)))
 
-  next_small : mag (b +ℤ pos 1) ≤ 50_000_000
+  pub next_small : mag (b +ℤ pos 1) ≤ 50_000_000
   next_small = rw (+ℤ_one b) (omega (arith, next_mag b, range_mag b in-range))
 
   -- times the jobs
-  product_is : held (held b +ℤ pos 1) *ℤ held jobs ≡ (b +ℤ pos 1) *ℤ pos m
+  pub product_is : held (held b +ℤ pos 1) *ℤ held jobs ≡ (b +ℤ pos 1) *ℤ pos m
   product_is =
       ap₂ (λ (x y : ℤ). x *ℤ y)
       (ap held next_is ∙ held_as_it_is (b +ℤ pos 1) (omega (arith, next_small)))
       (ap held is_m ∙ held_as_it_is (pos m) (omega (arith, within.1)))
 
-  product_small : SFits w64 ((b +ℤ pos 1) *ℤ pos m)
+  pub product_small : SFits w64 ((b +ℤ pos 1) *ℤ pos m)
   product_small = record {
     sfits = omega (arith, product_mag (b +ℤ pos 1) m, mul-le-mul_right m (suc-le-suc next_small), mul-le-mul_left 50_000_001 within.1);
   }

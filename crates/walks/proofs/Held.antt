@@ -1,15 +1,18 @@
 -- Signed numbers as 64 bits hold them: those within the bounds are held as they are, and so is the order of two.
 use mathlib.Core.Path.{◌≡◌, refl, ap₂, ◌∙◌, subst₂}
-use Prim.Native.Nat.{◌^◌, ◌<◌}
+use Prim.Native.Nat.{ℕ, ◌^◌, ◌<◌}
 use mathlib.Core.Bool.{Bool, true, false, cond}
 use native.Mathlib.Omega.{arith}
-use lib.IntN.{ℤ, pos}
+use borrow.Author.Tests.{ltb-true, ltb-false}
+use lib.Dec.{ltb}
+use lib.IntN.{ℤ, pos, ◌-ℤ◌}
 use lib.Signed.{mag, lt_z}
 use mir.Syntax.{w64}
 use mir.Val.{SFits, of_z, to_z}
 use mir.ValLaws.{to_z-of_z}
 use Rattle.std.specs.Int.{int_max, int_min}
 use Rattle.theory.specs.Moved.{greater, smaller}
+use Rattle.theory.proofs.Signed.{difference, shortfall}
 
 -- a number as 64 bits hold it
 abbrev pub held : ℤ → ℤ
@@ -26,6 +29,14 @@ own_order a b less f g e = subst₂ (λ (x y : ℤ). lt_z x y ≡ less) (to_z-of
 -- 0 fits
 pub zero_fits : SFits w64 (pos 0)
 zero_fits = record { sfits = omega arith }
+
+-- the difference of two natural numbers that fit
+pub difference_fits : (a b : ℕ) → a < 2 ^ 63 → b < 2 ^ 63 → SFits w64 (pos a -ℤ pos b)
+difference_fits a b h k = go (ltb a b) refl
+  where
+    go : (less : Bool) → ltb a b ≡ less → SFits w64 (pos a -ℤ pos b)
+    go true e = rw (shortfall a b (ltb-true a b e)) (record { sfits = omega arith })
+    go false e = rw (difference a b (ltb-false a b e)) (record { sfits = omega arith })
 
 -- the greater of two numbers that fit is std's, and so is the smaller
 by_test : (test : Bool) (a b : ℤ) → cond test b a ≡ elim test [ true ↦ b | false ↦ a ]
