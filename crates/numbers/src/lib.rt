@@ -34,7 +34,7 @@ pub fn put_bytes(bytes: &mut [u8], at: usize, part: &[u8])
     requires { at + length part.now ≤ length bytes.old }
     ensures { bytes.new ≡ take at bytes.old ++ part.now ++ drop (at + length part.now) bytes.old }
 {
-    // Byte by byte: the library's copy of one lent byte string into another asks C for `memmove`, and c/hibalunduk.h says that memcpy and memset are enough.
+    // Byte by byte: where the library copies a caller's table into a caller's report, the compiler asks C for `memmove`; c/hibalunduk.h says that memcpy and memset do.
     for (j, &byte) in part.iter().enumerate() {
         bytes[at + j] = byte;
     }
