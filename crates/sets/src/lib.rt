@@ -136,3 +136,34 @@ pub fn explain(c: &[u32], d: &[u32], t: &[u32], row: u32) -> Result<Explanation,
         point: limit.point,
     })
 }
+
+#[cfg(test)]
+mod tests {
+    use super::*;
+    use std::test::Fail;
+    use trials::ByRank;
+
+    // The rows of a set by rank, after the `Timed` that they were asked of is gone.
+    fn by_rank<'a>(
+        set: &'a RankedSet<'a>,
+        response: &'a mut [u32; 24],
+    ) -> Result<ByRank<'a>, Refusal> {
+        let timed = respond(set)?;
+        *response = trials::responses_by_rank(&timed);
+        Ok(trials::ranked(&timed, response))
+    }
+
+    // How long a reference lives is in no clause.
+    #[test]
+    fn rows_by_rank_outlive_their_timed(rt: HostRuntime) -> Result<(), Fail> {
+        let c = [45, 30, 15, 10];
+        let d = [260, 190, 85, 60];
+        let t = [320, 210, 100, 70];
+        let set = climbs::ranked(refusals::check_lists(&c, &d, &t, 4, 4)?);
+        let mut response = [0u32; 24];
+        let rows = by_rank(&set, &mut response)?;
+        assert_eq!(rt; rows.c, [10, 15, 30, 45].as_slice());
+        assert_eq!(rt; rows.response, [10, 25, 55, 125].as_slice());
+        Ok(())
+    }
+}

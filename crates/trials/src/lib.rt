@@ -50,8 +50,8 @@ pub fn responses_by_rank(timed: &Timed) -> [u32; 24]
     climbs::gather(&timed.response, &set.order[..set.rows.d.len()])
 }
 
-// The rows of a set by rank, with their response times gathered so.
-pub fn ranked<'a>(timed: &'a Timed<'a>, response: &'a [u32; 24]) -> ByRank<'a>
+// The rows of a set by rank, with their response times gathered so. They refer to the set and to those, and the `Timed` need not live as long.
+pub fn ranked<'a, 'b: 'a>(timed: &Timed<'b>, response: &'a [u32; 24]) -> ByRank<'a>
     requires by_rank { InRankOrder timed.now.set.now.rows.d.now timed.now.response (take (length timed.now.set.now.rows.d.now) response.now) }
     requires long { length response.now ≡ 24 }
     ensures { AreTimedByRank timed.now.set.now.rows timed.now.response result }
