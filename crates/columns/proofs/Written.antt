@@ -52,6 +52,6 @@ module _
   rows_written past = rw (no_certified_lines_left cs ds ts cores responses allowances i past, append-nil) at left
 
 -- the header and the lines behind it
-pub text_written : {one two : List ℕ} (rows : List Row) (all : List Figures) → one ≡ line_of all_names → two ≡ one ++ certified_lines rows all → two ≡ certified_text rows all
+pub text_written : {one two : List ℕ} (front : List ℕ) (rows : List Row) (all : List Figures) → one ≡ front ++ line_of all_names → two ≡ one ++ certified_lines rows all → two ≡ front ++ certified_text rows all
 unfolding certified_text
-text_written rows all w x = simp (x, w)
+text_written front rows all w x = simp (x, w, append_assoc)

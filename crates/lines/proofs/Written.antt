@@ -26,24 +26,24 @@ module _ {one two three four : List ℕ} where
   row_written front number figures w x y z = simp (z, y, x, w, append_assoc)
 
   -- the listing
-  pub listing_written : (all : List Figures)
-      → one ≡ header_line
+  pub listing_written : (front : List ℕ) (all : List Figures)
+      → one ≡ front ++ header_line
       → two ≡ one ++ row_lines 1 all
       → three ≡ two ++ ascii "system "
       → four ≡ three ++ (decimal (system_allowance all) ++ (10 ∷ []))
-      → four ≡ listing all
+      → four ≡ front ++ listing all
   unfolding listing
-  listing_written all w x y z = simp (z, y, x, w, append_assoc)
+  listing_written front all w x y z = simp (z, y, x, w, append_assoc)
 
   -- the line of a refusal
-  pub refusal_written : (number row : ℕ)
-      → one ≡ ascii "refused "
+  pub refusal_written : (front : List ℕ) (number row : ℕ)
+      → one ≡ front ++ ascii "refused "
       → two ≡ one ++ (decimal number ++ (32 ∷ []))
       → three ≡ two ++ ascii "row "
       → four ≡ three ++ (decimal row ++ (10 ∷ []))
-      → four ≡ refusal number row
+      → four ≡ front ++ refusal number row
   unfolding refusal ascii
-  refusal_written number row w x y z = simp (z, y, x, w, append_assoc)
+  refusal_written front number row w x y z = simp (z, y, x, w, append_assoc)
 
 -- where lines stand written and a line and more are left of the whole, the line written leaves the rest
 pub one_line_more : (front line rest : List ℕ) {whole next : List ℕ} → front ++ (line ++ rest) ≡ whole → next ≡ front ++ line → next ++ rest ≡ whole
