@@ -155,15 +155,16 @@ mod tests {
 
     // How long a reference lives is in no clause.
     #[test]
-    fn rows_by_rank_outlive_their_timed(rt: HostRuntime) -> Result<(), Fail> {
+    fn rows_by_rank_outlive_their_timed() -> Result<(), Fail> {
         let c = [45, 30, 15, 10];
         let d = [260, 190, 85, 60];
         let t = [320, 210, 100, 70];
         let set = climbs::ranked(refusals::check_lists(&c, &d, &t, 4, 4)?);
         let mut response = [0u32; 24];
         let rows = by_rank(&set, &mut response)?;
-        assert_eq!(rt; rows.c, [10, 15, 30, 45].as_slice());
-        assert_eq!(rt; rows.response, [10, 25, 55, 125].as_slice());
+        if rows.c != [10, 15, 30, 45].as_slice() || rows.response != [10, 25, 55, 125].as_slice() {
+            return Err("other rows, or other response times".into());
+        }
         Ok(())
     }
 }
